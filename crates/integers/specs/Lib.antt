@@ -1,0 +1,4 @@
+pub mod Extremes
+pub mod Halves
+pub mod Signs
+pub mod Words
