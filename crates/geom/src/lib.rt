@@ -2,7 +2,8 @@
 ghost use mathlib.Core.Path.{_≡_};
 ghost use Rattle.geom.specs.Range.{inRange, inDoubledRange};
 ghost use Rattle.geom.specs.Boxes.{emptyRect, lesserOf, greaterOf, rectOf, unionOf, meets, holdsPoint, holdsRect};
-use integers::{max, min};
+use integers::max;
+use integers::min;
 
 /// The largest coordinate in range, either side of zero: 2^40.
 pub const MAX_COORD: i64 = 1099511627776;

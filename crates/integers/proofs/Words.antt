@@ -13,7 +13,7 @@ use mir.Val.{SFits}
 use Rattle.integers.specs.declared.Sign.the-variants.{Negative, Zero, Positive}
 use Rattle.integers.specs.Signs.{signOf}
 use Rattle.integers.specs.declared.SignedWide.{SignedWide}
-use Rattle.integers.specs.Words.{under, sizeOf, wideValueOf}
+use Rattle.integers.specs.Words.{under, signedOf, valueOf, sizeOf, wideValueOf}
 use Rattle.integers.proofs.Order.{zarith, add-parts, sub-parts, neg-parts, abs-parts, thin}
 use Rattle.integers.proofs.Signs.{has-sign}
 use Rattle.integers.proofs.Tests.{and-true, lt-true, lt-false}
@@ -78,6 +78,10 @@ under-mul true false m n = ap (λ k. negℤ (pos k)) (mul-comm m n) ∙ negated-
 under-mul true true zero n = rw zero-mul (sym (zero-*ℤ (negℤ (pos n))))
 under-mul true true (suc m) zero = rw mul-zero
 under-mul true true (suc m) (suc n) = refl
+
+pub value-signed : (z : ℤ) → valueOf (signedOf z) ≡ z
+value-signed (pos n) = ap (λ t. under t n) (lt-false (pos n) (pos 0) (omega zarith))
+value-signed (negsuc n) = refl
 
 -- ---- the sign of a difference, by cases
 pub less : (m n : ℕ) → m < n → signOf (pos m -ℤ pos n) ≡ Negative
