@@ -41,7 +41,7 @@ pub struct Rect {
     pub max: Point,
 }
 
-/// The box round no edges. It holds no point and meets no box, and its union with any box is that box.
+/// The box round no edges. It holds no point, meets no box in range, and its union with any box is that box.
 pub const EMPTY_RECT: Rect = Rect {
     min: Point {
         x: 9223372036854775807,

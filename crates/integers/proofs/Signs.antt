@@ -194,3 +194,29 @@ max-parts x y = go (le-view x y)
     go : {a : Bool} → LeView x y a → (x ≤ℤ cond a y x) × (y ≤ℤ cond a y x)
     go (isLE h) = omega zarith
     go (isGT h) = omega zarith
+
+-- what is at most both is at most the lesser, and what is at least both at least the greater
+pub min-least : (x y p : ℤ) → p ≤ℤ x → p ≤ℤ y → p ≤ℤ minZ x y
+min-least x y p h g = go (leZ x y)
+  where
+    go : (b : Bool) → p ≤ℤ cond b x y
+    go true = h
+    go false = g
+
+pub max-greatest : (x y p : ℤ) → x ≤ℤ p → y ≤ℤ p → maxZ x y ≤ℤ p
+max-greatest x y p h g = go (leZ x y)
+  where
+    go : (b : Bool) → cond b y x ≤ℤ p
+    go true = g
+    go false = h
+
+-- the lesser and the greater, where the order is known
+pub min-right : (x y : ℤ) → y ≤ℤ x → minZ x y ≡ y
+min-right x y h = go (le-view x y)
+  where
+    go : {b : Bool} → LeView x y b → cond b x y ≡ y
+    go (isLE g) = omega zarith
+    go (isGT g) = refl
+
+pub max-right : (x y : ℤ) → x ≤ℤ y → maxZ x y ≡ y
+max-right x y h = ap (λ b. cond b y x) (le-true x y h)

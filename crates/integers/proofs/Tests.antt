@@ -25,6 +25,10 @@ pub and-true : (a b : Bool) → a && b ≡ true → (a ≡ true) × (b ≡ true)
 and-true true b e = (refl, e)
 and-true false b e = absurd (true-T e)
 
+pub not-both : (b : Bool) → (b ≡ true → ⊥) → b ≡ false
+not-both true f = absurd (f refl)
+not-both false f = refl
+
 -- ---- from an order to the test
 pub lt-true : (x y : ℤ) → x <ℤ y → ltZ x y ≡ true
 lt-true x y h = T-true (ltZ x y) (h .lt)

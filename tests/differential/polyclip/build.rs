@@ -24,6 +24,8 @@ const PUBLIC: &str = "    pub fn locate_doubled(&self, m2: Point) -> Location {"
 
 fn main() {
     println!("cargo::rerun-if-env-changed={VARIABLE}");
+    // The source has an optional feature that is left off here.
+    println!("cargo::rustc-check-cfg=cfg(feature, values(\"serde\"))");
     if let Err(message) = take_modules() {
         println!("cargo::error={message}");
     }
@@ -82,7 +84,7 @@ fn with_public_locate_doubled(text: &str) -> Result<String, String> {
 /// The line of `modules.rs` that declares a module; the original's own lints are not ours to mend.
 fn declaration(module: &str, copy: &Path) -> String {
     format!(
-        "#[allow(dead_code, unexpected_cfgs, clippy::all)]\n#[path = {:?}]\npub mod {module};\n",
+        "#[allow(dead_code, clippy::all)]\n#[path = {:?}]\npub mod {module};\n",
         copy.display().to_string()
     )
 }

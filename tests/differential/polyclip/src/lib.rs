@@ -12,7 +12,7 @@ mod arrangement;
 mod node;
 
 pub use geom::{Point, PolyNode, PolyTree, Polygon, Ring};
-pub use prepared::Prepared;
+pub use prepared::{Preparable, Prepared};
 pub use query::Location;
 
 /// Stands in for `libm::hypot`.
