@@ -1,0 +1,247 @@
+//! Plans that depend on a seed and a number alone.
+
+use crate::placement;
+use crate::plan::{Plan, Polygon, Query, Ring};
+use crate::points;
+use crate::random::Random;
+use crate::rings::{flat_ring, long_ring, reversed, shifted, simple_ring, small_ring, square};
+
+/// The seed that is taken where none is given.
+pub const SEED: u64 = 20_261_005;
+
+/// How large a case may be. A far outline may come on top of the corners and rings.
+#[derive(Clone, Copy)]
+pub struct Size {
+    pub corners: usize,
+    pub rings: usize,
+    pub queries: usize,
+}
+
+/// A plan and the points to ask of it.
+pub struct Case {
+    pub plan: Plan,
+    pub queries: Vec<Query>,
+}
+
+type Family = fn(&mut Random, Size) -> Plan;
+
+/// Families of plans, taken in turn.
+const FAMILIES: [Family; 12] = [
+    single_ring,
+    holed_polygon,
+    overlapping_holes,
+    flat_outer,
+    small_list,
+    neighbours,
+    small_tree,
+    nested_tree,
+    long_ring_with_hole,
+    tree_of_long_rings,
+    many_polygons,
+    tree_of_squares,
+];
+
+/// The case of a number.
+pub fn case(seed: u64, number: usize, size: Size) -> Case {
+    let mut random = Random::new(seed, number as u64);
+    let family = FAMILIES[number % FAMILIES.len()];
+    let plan = family(&mut random, size);
+    let plan = placement::place(&mut random, plan);
+    let queries = points::queries(&mut random, &plan, size.queries);
+    Case { plan, queries }
+}
+
+fn some_grid(random: &mut Random) -> i64 {
+    random.between(2, 12)
+}
+
+fn single_ring(random: &mut Random, _: Size) -> Plan {
+    let grid = some_grid(random);
+    Plan::list(&[vec![small_ring(random, grid)]])
+}
+
+fn holed_polygon(random: &mut Random, _: Size) -> Plan {
+    let grid = some_grid(random);
+    Plan::list(&[polygon(random, grid)])
+}
+
+/// A polygon with up to four holes.
+fn polygon(random: &mut Random, grid: i64) -> Polygon {
+    let outer = small_ring(random, grid);
+    let mut rings = vec![outer.clone()];
+    for _ in 0..random.below(5) {
+        rings.push(hole(random, &outer, grid));
+    }
+    rings
+}
+
+/// A hole that may equal its outer ring, touch it, overlap it or have nothing to do with it.
+fn hole(random: &mut Random, outer: &Ring, grid: i64) -> Ring {
+    match random.below(8) {
+        0 => outer.clone(),
+        1 => reversed(outer),
+        2 => shifted(outer, random.between(-2, 2), random.between(-2, 2)),
+        3 => halved_towards_first_corner(outer),
+        4 => on_first_edge(random, outer, grid),
+        5 => simple_ring(random, grid),
+        _ => small_ring(random, grid),
+    }
+}
+
+/// Touches its outer ring in that ring's first corner.
+fn halved_towards_first_corner(outer: &Ring) -> Ring {
+    let Some(&(x, y)) = outer.first() else {
+        return Vec::new();
+    };
+    let half_way = |&(u, v): &(i64, i64)| ((x + u).div_euclid(2), (y + v).div_euclid(2));
+    outer.iter().map(half_way).collect()
+}
+
+/// Shares its outer ring's first edge.
+fn on_first_edge(random: &mut Random, outer: &Ring, grid: i64) -> Ring {
+    let mut ring: Ring = outer.iter().copied().take(2).collect();
+    ring.push((random.between(0, grid), random.between(0, grid)));
+    ring
+}
+
+/// Holes that lie on each other, in any order.
+fn overlapping_holes(random: &mut Random, _: Size) -> Plan {
+    let outer = square((0, 0), 12);
+    let first = shifted(&simple_ring(random, 6), 3, 3);
+    let second = shifted(&first, random.between(0, 2), random.between(0, 2));
+    let third = shifted(&small_ring(random, 6), 3, 3);
+    let mut holes = vec![first, second, third];
+    random.shuffle(&mut holes);
+    holes.insert(0, outer);
+    Plan::list(&[holes])
+}
+
+/// Polygons whose outer ring has nothing inside it, with holes that have.
+fn flat_outer(random: &mut Random, _: Size) -> Plan {
+    let grid = some_grid(random);
+    let mut polygons = Vec::new();
+    for _ in 0..1 + random.below(3) {
+        let outer = flat_ring(random, grid);
+        polygons.push(vec![outer, simple_ring(random, grid)]);
+    }
+    if random.one_in(2) {
+        polygons.push(polygon(random, grid));
+    }
+    random.shuffle(&mut polygons);
+    Plan::list(&polygons)
+}
+
+/// A list of polygons that may overlap, or of none.
+fn small_list(random: &mut Random, _: Size) -> Plan {
+    let grid = some_grid(random);
+    let count = random.below(7);
+    let polygons: Vec<Polygon> = (0..count).map(|_| polygon(random, grid)).collect();
+    Plan::list(&polygons)
+}
+
+/// Copies of one polygon that lie on each other or share a side.
+fn neighbours(random: &mut Random, _: Size) -> Plan {
+    let grid = some_grid(random);
+    let first = polygon(random, grid);
+    let copies = 2 + random.below(4);
+    let mut copy = |_| {
+        let (dx, dy) = (random.between(0, 2) * grid, random.between(0, 1) * grid);
+        first.iter().map(|ring| shifted(ring, dx, dy)).collect()
+    };
+    let polygons: Vec<Polygon> = (0..copies).map(&mut copy).collect();
+    Plan::list(&polygons)
+}
+
+/// A tree of rings that may overlap or be equal, or of none.
+fn small_tree(random: &mut Random, _: Size) -> Plan {
+    let grid = some_grid(random);
+    let mut rings: Vec<Ring> = Vec::new();
+    for _ in 0..random.below(8) {
+        let ring = match rings.last() {
+            Some(last) if random.one_in(4) => last.clone(),
+            _ => small_ring(random, grid),
+        };
+        rings.push(ring);
+    }
+    Plan::tree(&rings)
+}
+
+/// Squares inside each other, some of them touching.
+fn nested_tree(random: &mut Random, _: Size) -> Plan {
+    let count = 2 + random.below(8) as i64;
+    let mut rings: Vec<Ring> = (0..count).map(|inset| inset_square(inset, count)).collect();
+    if random.one_in(2) {
+        rings.push(small_ring(random, 2 * count));
+    }
+    random.shuffle(&mut rings);
+    Plan::tree(&rings)
+}
+
+/// The square that keeps `inset` from its frame on three sides and half of that on the left.
+fn inset_square(inset: i64, count: i64) -> Ring {
+    let (left, bottom) = (inset / 2, inset);
+    square((left, bottom), 2 * count - 2 * inset)
+}
+
+/// A number of corners, of varied order of size up to `most`.
+fn some_length(random: &mut Random, most: usize) -> usize {
+    let bounds: Vec<usize> = [12, 24, 70, 140, 530, most]
+        .into_iter()
+        .map(|bound| bound.min(most))
+        .collect();
+    let bound = random.pick(&bounds);
+    bound - random.below(bound / 3)
+}
+
+fn long_ring_with_hole(random: &mut Random, size: Size) -> Plan {
+    let corners = some_length(random, size.corners - 12);
+    let mut rings = vec![long_ring(random, corners)];
+    if random.one_in(2) {
+        rings.push(simple_ring(random, 12));
+    }
+    Plan::list(&[rings])
+}
+
+fn tree_of_long_rings(random: &mut Random, size: Size) -> Plan {
+    let count = 1 + random.below(3);
+    let corners = some_length(random, size.corners / count);
+    let rings: Vec<Ring> = (0..count).map(|_| long_ring(random, corners)).collect();
+    Plan::tree(&rings)
+}
+
+/// A list of many polygons, laid out beside each other or in a heap.
+fn many_polygons(random: &mut Random, size: Size) -> Plan {
+    let spread = random.pick(&[1, 3, 6]);
+    let most = (size.corners / 30).min(size.rings / 5);
+    let count = 3 + random.below(most - 3);
+    let mut placed = |number: usize| {
+        let (column, row) = ((number % 6) as i64, (number / 6) as i64);
+        let polygon = some_polygon(random);
+        let place = |ring: &Ring| shifted(ring, column * spread, row * spread);
+        polygon.iter().map(place).collect()
+    };
+    let polygons: Vec<Polygon> = (0..count).map(&mut placed).collect();
+    Plan::list(&polygons)
+}
+
+/// A polygon, now and then without holes.
+fn some_polygon(random: &mut Random) -> Polygon {
+    if random.one_in(2) {
+        vec![small_ring(random, 6)]
+    } else {
+        vec![simple_ring(random, 6), simple_ring(random, 4)]
+    }
+}
+
+/// A tree of many squares, laid out beside each other or in a heap.
+fn tree_of_squares(random: &mut Random, size: Size) -> Plan {
+    let most = size.rings.min(size.corners / 4);
+    let count = 4 + random.below(most - 4);
+    let reach = random.between(2, 16);
+    let mut some_square = |_| {
+        let place = (random.between(0, reach), random.between(0, reach));
+        square(place, random.between(1, 5))
+    };
+    let rings: Vec<Ring> = (0..count).map(&mut some_square).collect();
+    Plan::tree(&rings)
+}
