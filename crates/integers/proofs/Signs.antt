@@ -10,7 +10,7 @@ use lib.Signed.{leZ, ltZ, _≤ℤ_, _<ℤ_}
 use Rattle.integers.specs.declared.Sign.{Sign}
 use Rattle.integers.specs.declared.Sign.the-variants.{Negative, Zero, Positive}
 use Rattle.integers.specs.Extremes.{minZ, maxZ}
-use Rattle.integers.specs.Signs.{signOf}
+use Rattle.integers.specs.Signs.{signOf, isNegative, isZero, isPositive}
 use Rattle.integers.proofs.Order.{zarith, sub-parts}
 use Rattle.integers.proofs.Tests.{LeView, isLE, isGT, le-view, lt-true, lt-false, le-true, le-false}
 
@@ -63,21 +63,6 @@ has-sign Zero x h = ap signOf h
 has-sign Positive (pos zero) h = absurd (omega zarith)
 has-sign Positive (pos (suc n)) h = refl
 has-sign Positive (negsuc n) h = absurd (omega zarith)
-
-abbrev pub isNegative : Sign → Bool
-isNegative Negative = true
-isNegative Zero = false
-isNegative Positive = false
-
-abbrev pub isZero : Sign → Bool
-isZero Negative = false
-isZero Zero = true
-isZero Positive = false
-
-abbrev pub isPositive : Sign → Bool
-isPositive Negative = false
-isPositive Zero = false
-isPositive Positive = true
 
 -- the signs that a difference can have
 abbrev pub agree : Sign → Sign → Sign → Bool

@@ -3,10 +3,10 @@ use mathlib.Core.Path.{_≡_, refl, _∙_, ap, sym, subst}
 use mathlib.Core.Bool.{Bool, true, false, not, _&&_}
 use lib.Dec.{T}
 use Rattle.integers.specs.declared.Sign.{Sign}
-use Rattle.integers.specs.Signs.{signOf}
+use Rattle.integers.specs.Signs.{signOf, isZero}
 use Rattle.geom.specs.declared.Point.{Point}
 use Rattle.geom.specs.Boxes.{rectOf, holdsPoint}
-use Rattle.predicates.specs.Turn.{orientation, onSegment, isZero}
+use Rattle.predicates.specs.Turn.{orientation, onSegment}
 
 pub not-true : (b : Bool) → not b ≡ true → b ≡ false
 not-true true e = absurd (subst T (sym e) tt)

@@ -52,7 +52,7 @@ pub fn case(seed: u64, number: usize, size: Size) -> Case {
 }
 
 fn some_grid(random: &mut Random) -> i64 {
-    random.between(2, 12)
+    random.pick(&[2, 4, 8, 12, 20, 40])
 }
 
 fn single_ring(random: &mut Random, _: Size) -> Plan {
@@ -65,11 +65,15 @@ fn holed_polygon(random: &mut Random, _: Size) -> Plan {
     Plan::list(&[polygon(random, grid)])
 }
 
-/// A polygon with up to four holes.
+/// A polygon with up to three holes.
 fn polygon(random: &mut Random, grid: i64) -> Polygon {
-    let outer = small_ring(random, grid);
+    let outer = if random.one_in(2) {
+        simple_ring(random, grid)
+    } else {
+        small_ring(random, grid)
+    };
     let mut rings = vec![outer.clone()];
-    for _ in 0..random.below(5) {
+    for _ in 0..random.below(4) {
         rings.push(hole(random, &outer, grid));
     }
     rings
@@ -166,29 +170,25 @@ fn small_tree(random: &mut Random, _: Size) -> Plan {
     Plan::tree(&rings)
 }
 
-/// Squares inside each other, some of them touching.
+/// Squares inside each other, in any order; on the left, every other one touches the next larger.
 fn nested_tree(random: &mut Random, _: Size) -> Plan {
     let count = 2 + random.below(8) as i64;
-    let mut rings: Vec<Ring> = (0..count).map(|inset| inset_square(inset, count)).collect();
+    let gap = random.between(1, 4);
+    let inset = |k: i64| square((k / 2 * gap, k * gap), 2 * (count - k) * gap);
+    let mut rings: Vec<Ring> = (0..count).map(inset).collect();
     if random.one_in(2) {
-        rings.push(small_ring(random, 2 * count));
+        rings.push(small_ring(random, 2 * count * gap));
     }
     random.shuffle(&mut rings);
     Plan::tree(&rings)
 }
 
-/// The square that keeps `inset` from its frame on three sides and half of that on the left.
-fn inset_square(inset: i64, count: i64) -> Ring {
-    let (left, bottom) = (inset / 2, inset);
-    square((left, bottom), 2 * count - 2 * inset)
-}
-
-/// A number of corners, of varied order of size up to `most`.
+/// A number of corners up to `most`, few or many.
 fn some_length(random: &mut Random, most: usize) -> usize {
-    let bounds: Vec<usize> = [12, 24, 70, 140, 530, most]
-        .into_iter()
+    let mut bounds = [12, 24, 70, 140, 530, most]
         .map(|bound| bound.min(most))
-        .collect();
+        .to_vec();
+    bounds.dedup();
     let bound = random.pick(&bounds);
     bound - random.below(bound / 3)
 }
@@ -211,36 +211,26 @@ fn tree_of_long_rings(random: &mut Random, size: Size) -> Plan {
 
 /// A list of many polygons, laid out beside each other or in a heap.
 fn many_polygons(random: &mut Random, size: Size) -> Plan {
-    let spread = random.pick(&[1, 3, 6]);
-    let most = (size.corners / 30).min(size.rings / 5);
+    let spread = random.pick(&[1, 5, 10]);
+    let most = (size.corners / 12).min(size.rings / 2);
     let count = 3 + random.below(most - 3);
-    let mut placed = |number: usize| {
+    let mut polygon = |number: usize| {
         let (column, row) = ((number % 6) as i64, (number / 6) as i64);
-        let polygon = some_polygon(random);
-        let place = |ring: &Ring| shifted(ring, column * spread, row * spread);
-        polygon.iter().map(place).collect()
+        let mut ring = |grid| shifted(&simple_ring(random, grid), column * spread, row * spread);
+        vec![ring(10), ring(5)]
     };
-    let polygons: Vec<Polygon> = (0..count).map(&mut placed).collect();
+    let polygons: Vec<Polygon> = (0..count).map(&mut polygon).collect();
     Plan::list(&polygons)
-}
-
-/// A polygon, now and then without holes.
-fn some_polygon(random: &mut Random) -> Polygon {
-    if random.one_in(2) {
-        vec![small_ring(random, 6)]
-    } else {
-        vec![simple_ring(random, 6), simple_ring(random, 4)]
-    }
 }
 
 /// A tree of many squares, laid out beside each other or in a heap.
 fn tree_of_squares(random: &mut Random, size: Size) -> Plan {
     let most = size.rings.min(size.corners / 4);
     let count = 4 + random.below(most - 4);
-    let reach = random.between(2, 16);
+    let reach = random.between(2, 40);
     let mut some_square = |_| {
         let place = (random.between(0, reach), random.between(0, reach));
-        square(place, random.between(1, 5))
+        square(place, random.between(1, 20))
     };
     let rings: Vec<Ring> = (0..count).map(&mut some_square).collect();
     Plan::tree(&rings)

@@ -8,11 +8,13 @@ use crate::rings;
 type Placing = fn(&mut Random, &mut Plan);
 
 /// What is done to a plan's coordinates; most plans stay small.
-const PLACINGS: [Placing; 10] = [
+const PLACINGS: [Placing; 12] = [
     stay,
     stay,
     stay,
     stay,
+    stay,
+    move_a_little,
     move_a_little,
     move_a_little,
     stretch,

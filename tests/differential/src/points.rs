@@ -16,15 +16,20 @@ struct View {
 
 type Maker = fn(&mut Random, &View) -> WidePoint;
 
-const MAKERS: [Maker; 12] = [
+const MAKERS: [Maker; 17] = [
     corner,
     beside_corner,
     on_edge,
-    on_edge,
     beside_edge,
+    closest_to_edge,
+    closest_to_edge,
     beyond_edge,
-    midpoint,
     beside_midpoint,
+    beside_midpoint,
+    between_three,
+    between_three,
+    between_three,
+    between_three,
     in_line_with_corners,
     on_rim,
     anywhere,
@@ -98,20 +103,34 @@ fn beside_corner(random: &mut Random, view: &View) -> WidePoint {
     beside(corner(random, view), random, 2)
 }
 
-/// The point `steps` whole-numbered steps along an edge.
+/// The point that many whole-numbered steps along an edge, as `steps` gives them from their number.
 fn along((a, b): (WidePoint, WidePoint), steps: impl FnOnce(i64) -> i64) -> WidePoint {
     let (dx, dy) = (b.0 - a.0, b.1 - a.1);
-    let count = common_divisor(dx, dy).max(1);
+    let count = common_divisor(dx, dy).divisor.max(1);
     let steps = i128::from(steps(narrow(count)));
     (a.0 + steps * (dx / count), a.1 + steps * (dy / count))
 }
 
-fn common_divisor(a: i128, b: i128) -> i128 {
-    let (mut a, mut b) = (a.abs(), b.abs());
-    while b != 0 {
-        (a, b) = (b, a % b);
+/// The greatest common divisor of two numbers as a sum of multiples of them.
+struct CommonDivisor {
+    divisor: i128,
+    factors: (i128, i128),
+}
+
+/// Euclid's algorithm.
+fn common_divisor(a: i128, b: i128) -> CommonDivisor {
+    if b == 0 {
+        return CommonDivisor {
+            divisor: a.abs(),
+            factors: (a.signum(), 0),
+        };
     }
-    a
+    let CommonDivisor { divisor, factors } = common_divisor(b, a % b);
+    let (x, y) = factors;
+    CommonDivisor {
+        divisor,
+        factors: (y, x - a / b * y),
+    }
 }
 
 fn on_edge(random: &mut Random, view: &View) -> WidePoint {
@@ -120,6 +139,18 @@ fn on_edge(random: &mut Random, view: &View) -> WidePoint {
 
 fn beside_edge(random: &mut Random, view: &View) -> WidePoint {
     beside(on_edge(random, view), random, 1)
+}
+
+/// Beside an edge, so close to its line as a whole-numbered point can be without lying on it.
+fn closest_to_edge(random: &mut Random, view: &View) -> WidePoint {
+    let (a, b) = edge(random, view);
+    let (dx, dy) = (b.0 - a.0, b.1 - a.1);
+    let CommonDivisor { divisor, factors } = common_divisor(dx, dy);
+    let (mut u, mut v) = (-factors.1, factors.0);
+    if u * dx + v * dy < 0 {
+        (u, v) = (u + dx / divisor, v + dy / divisor);
+    }
+    random.pick(&[(a.0 + u, a.1 + v), (b.0 - u, b.1 - v)])
 }
 
 /// On the line through an edge, past one of its ends.
@@ -135,14 +166,21 @@ fn beyond_edge(random: &mut Random, view: &View) -> WidePoint {
     })
 }
 
-/// Between two corners, whether or not an edge joins them.
-fn midpoint(random: &mut Random, view: &View) -> WidePoint {
+/// On or beside the middle of two corners, whether or not an edge joins them.
+fn beside_midpoint(random: &mut Random, view: &View) -> WidePoint {
     let (a, b) = (corner(random, view), corner(random, view));
-    ((a.0 + b.0).div_euclid(2), (a.1 + b.1).div_euclid(2))
+    let midpoint = ((a.0 + b.0).div_euclid(2), (a.1 + b.1).div_euclid(2));
+    beside(midpoint, random, 1)
 }
 
-fn beside_midpoint(random: &mut Random, view: &View) -> WidePoint {
-    beside(midpoint(random, view), random, 1)
+/// Amid the ends of two edges that mostly follow each other, and so often inside their ring.
+fn between_three(random: &mut Random, view: &View) -> WidePoint {
+    let edges = view.edges.len().max(1);
+    let place = random.below(edges);
+    let at = |place: usize| view.edges.get(place % edges).copied().unwrap_or_default();
+    let ((a, b), (_, c)) = (at(place), at(place + 1));
+    let third = |sum: i128| sum.div_euclid(3);
+    (third(a.0 + b.0 + c.0), third(a.1 + b.1 + c.1))
 }
 
 /// The x of one corner and the y of another.
@@ -160,14 +198,11 @@ fn on_rim(random: &mut Random, view: &View) -> WidePoint {
     }
 }
 
-/// Between or a little beyond some corners, in x and in y apart.
+/// Between two corners or a little beyond them, in x and in y apart.
 fn anywhere(random: &mut Random, view: &View) -> WidePoint {
-    let mut part = |from: i128, to: i128| {
-        from + (to - from) * i128::from(random.between(-2, 10)) / 8
-    };
-    let x = part(corner(random, view).0, corner(random, view).0);
-    let y = part(corner(random, view).1, corner(random, view).1);
-    (x, y)
+    let (a, b) = (corner(random, view), corner(random, view));
+    let mut part = |from, to| from + (to - from) * i128::from(random.between(-2, 10)) / 8;
+    (part(a.0, b.0), part(a.1, b.1))
 }
 
 /// At an end of the range, one beyond it, or at the end of 64 bits, in one coordinate or both.

@@ -9,7 +9,13 @@ type Shape = fn(&mut Random, i64) -> Ring;
 const SIMPLE: [Shape; 4] = [rectangle, triangle, diamond, notched];
 
 /// Rings with nothing inside them.
-const FLAT: [Shape; 5] = [empty, repeated_corner, two_corners, collinear, there_and_back];
+const FLAT: [Shape; 5] = [
+    empty,
+    repeated_corner,
+    two_corners,
+    collinear,
+    there_and_back,
+];
 
 const SMALL: [Shape; 16] = [
     rectangle,
@@ -134,7 +140,12 @@ fn opposite_corners(random: &mut Random, grid: i64) -> (Point, Point) {
 fn diamond(random: &mut Random, grid: i64) -> Ring {
     let (x, y) = corner(random, grid);
     let reach = random.between(1, grid);
-    let ring = vec![(x - reach, y), (x, y - reach), (x + reach, y), (x, y + reach)];
+    let ring = vec![
+        (x - reach, y),
+        (x, y - reach),
+        (x + reach, y),
+        (x, y + reach),
+    ];
     either_way_round(random, ring)
 }
 
@@ -197,15 +208,16 @@ fn crowded_sides(random: &mut Random, grid: i64) -> Ring {
 }
 
 fn scattered_far(random: &mut Random, count: usize) -> Ring {
-    let grid = random.between(4, 60);
+    let grid = random.between(4, 200);
     corners(random, grid, count)
 }
 
 fn walk(random: &mut Random, count: usize) -> Ring {
     let (mut x, mut y) = (0, 0);
+    let reach = random.between(1, 9);
     let mut step = |_| {
-        x += random.between(-2, 2);
-        y += random.between(-2, 2);
+        x += random.between(-reach, reach);
+        y += random.between(-reach, reach);
         (x, y)
     };
     (0..count).map(&mut step).collect()
@@ -224,7 +236,7 @@ fn comb(random: &mut Random, count: usize) -> Ring {
 /// A square spiral, closed by one long edge: its middle is gone round many times.
 fn spiral(random: &mut Random, count: usize) -> Ring {
     let (mut x, mut y) = (0, 0);
-    let gap = random.between(1, 3);
+    let gap = random.between(1, 4);
     let mut turn = |step: usize| {
         let length = gap * (step as i64 / 2 + 1);
         match step % 4 {
@@ -243,7 +255,7 @@ fn spiral(random: &mut Random, count: usize) -> Ring {
 fn staircase(random: &mut Random, count: usize) -> Ring {
     let (mut x, mut y) = (0, 0);
     let mut step = |number: usize| {
-        let length = random.between(1, 2);
+        let length = random.between(1, 4);
         if number.is_multiple_of(2) {
             x += length;
         } else {

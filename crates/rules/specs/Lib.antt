@@ -1,0 +1,9 @@
+pub mod Numbers
+pub mod Lists
+pub mod Edges
+pub mod Replies
+pub mod Plans
+pub mod Tables
+pub mod Nodes
+pub mod Rays
+pub mod Cases
