@@ -1,1 +1,10 @@
 pub mod Cases
+pub mod Flags
+pub mod RaySigns
+pub mod RayEdges
+pub mod FourRays
+pub mod Indexed
+pub mod Nodes
+pub mod RayChoice
+pub mod Verdicts
+mod Worked

@@ -1,6 +1,6 @@
 -- Edges and the winding number (document 01, items 1 and 3).
 use mathlib.Core.Bool.{Bool, cond, _&&_}
-use mathlib.Core.List.{List, [], _∷_}
+use mathlib.Core.List.{List, [], _∷_, _++_}
 use lib.IntN.{ℤ, pos, negsuc}
 use lib.Signed.{leZ, ltZ}
 use Rattle.integers.specs.Signs.{signOf, isNegative, isPositive}
@@ -21,6 +21,11 @@ unfoldable pub edgesOf : List Point → List Edge
 unfolding edgesFrom
 edgesOf [] = []
 edgesOf (first ∷ rest) = edgesFrom first first rest
+
+-- all edges of all rings, in plan order
+unfoldable pub allEdges : List (List Point) → List Edge
+allEdges [] = []
+allEdges (ring ∷ rings) = edgesOf ring ++ allEdges rings
 
 -- item 3: +1 for an edge with a.y ≤ p.y < b.y and positive turn, −1 for b.y ≤ p.y < a.y and negative turn
 unfoldable pub edgeWinding : Point → Point → Point → ℤ

@@ -1,13 +1,13 @@
 -- Where a point lies in a ring, a polygon, a list and a tree, and on the half-grid (document 01, items 3, 4 and 7).
 use mathlib.Core.Bool.{Bool, not, cond}
-use mathlib.Core.List.{List, [], _∷_, _++_, map}
+use mathlib.Core.List.{List, [], _∷_, map}
 use lib.IntN.{ℤ, pos, _*ℤ_}
 use Rattle.integers.specs.Signs.{signOf, isZero}
 use Rattle.geom.specs.declared.Point.{Point}
 use Rattle.rules.specs.declared.Location.{Location}
 use Rattle.rules.specs.declared.Location.the-variants.{Outside, Inside, OnBoundary}
 use Rattle.rules.specs.Lists.{anyOf, countOf, isOdd}
-use Rattle.rules.specs.Edges.{Edge, edgesOf, edgeWinding, winding, onEdge}
+use Rattle.rules.specs.Edges.{Edge, edgesOf, allEdges, edgeWinding, winding, onEdge}
 
 abbrev pub isNonzero : ℤ → Bool
 isNonzero z = not (isZero (signOf z))
@@ -61,11 +61,14 @@ doubled p = record { x = pos 2 *ℤ p .x; y = pos 2 *ℤ p .y }
 
 -- item 7: all edges of all rings, corners doubled
 unfoldable pub doubledEdges : List (List Point) → List Edge
-doubledEdges [] = []
-doubledEdges (ring ∷ rings) = edgesOf (map doubled ring) ++ doubledEdges rings
+doubledEdges rings = allEdges (map (map doubled) rings)
+
+-- item 7: an edge that gets +1 or −1
+abbrev pub crosses : Edge → Point → Bool
+crosses e p = isNonzero (edgeWinding (e .0) (e .1) p)
 
 -- item 7: on any edge is boundary; otherwise inside exactly if an odd number of edges get +1 or −1
 unfoldable pub halfReply : List (List Point) → Point → Location
 halfReply rings p =
     cond (onEdge (doubledEdges rings) p) OnBoundary
-    (cond (isOdd (countOf (λ e. isNonzero (edgeWinding (e .0) (e .1) p)) (doubledEdges rings))) Inside Outside)
+    (cond (isOdd (countOf (λ e. crosses e p) (doubledEdges rings))) Inside Outside)

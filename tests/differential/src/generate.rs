@@ -148,11 +148,11 @@ fn neighbours(random: &mut Random, _: Size) -> Plan {
     let grid = some_grid(random);
     let first = polygon(random, grid);
     let copies = 2 + random.below(4);
-    let mut copy = |_| {
+    let copy = |_| {
         let (dx, dy) = (random.between(0, 2) * grid, random.between(0, 1) * grid);
         first.iter().map(|ring| shifted(ring, dx, dy)).collect()
     };
-    let polygons: Vec<Polygon> = (0..copies).map(&mut copy).collect();
+    let polygons: Vec<Polygon> = (0..copies).map(copy).collect();
     Plan::list(&polygons)
 }
 
@@ -214,12 +214,12 @@ fn many_polygons(random: &mut Random, size: Size) -> Plan {
     let spread = random.pick(&[1, 5, 10]);
     let most = (size.corners / 12).min(size.rings / 2);
     let count = 3 + random.below(most - 3);
-    let mut polygon = |number: usize| {
+    let polygon = |number: usize| {
         let (column, row) = ((number % 6) as i64, (number / 6) as i64);
         let mut ring = |grid| shifted(&simple_ring(random, grid), column * spread, row * spread);
         vec![ring(10), ring(5)]
     };
-    let polygons: Vec<Polygon> = (0..count).map(&mut polygon).collect();
+    let polygons: Vec<Polygon> = (0..count).map(polygon).collect();
     Plan::list(&polygons)
 }
 
@@ -228,10 +228,10 @@ fn tree_of_squares(random: &mut Random, size: Size) -> Plan {
     let most = size.rings.min(size.corners / 4);
     let count = 4 + random.below(most - 4);
     let reach = random.between(2, 40);
-    let mut some_square = |_| {
+    let some_square = |_| {
         let place = (random.between(0, reach), random.between(0, reach));
         square(place, random.between(1, 20))
     };
-    let rings: Vec<Ring> = (0..count).map(&mut some_square).collect();
+    let rings: Vec<Ring> = (0..count).map(some_square).collect();
     Plan::tree(&rings)
 }

@@ -24,8 +24,7 @@ const PLACINGS: [Placing; 12] = [
 ];
 
 /// Places a plan.
-pub fn place(random: &mut Random, plan: Plan) -> Plan {
-    let mut plan = plan;
+pub fn place(random: &mut Random, mut plan: Plan) -> Plan {
     turn_over(random, &mut plan);
     random.pick(&PLACINGS)(random, &mut plan);
     if random.one_in(3) {
@@ -37,13 +36,9 @@ pub fn place(random: &mut Random, plan: Plan) -> Plan {
     plan
 }
 
-fn map_corners(plan: &mut Plan, mut map: impl FnMut(Point) -> Point) {
-    let corners = plan.corners();
-    plan.coordinates = corners
-        .into_iter()
-        .map(&mut map)
-        .flat_map(|(x, y)| [x, y])
-        .collect();
+fn map_corners(plan: &mut Plan, map: impl FnMut(Point) -> Point) {
+    let corners = plan.corners().into_iter().map(map);
+    plan.coordinates = corners.flat_map(|(x, y)| [x, y]).collect();
 }
 
 /// Mirrors the plan at the axes and at their bisector, so that each ray is as likely as the others.

@@ -81,6 +81,12 @@ impl Plan {
     }
 }
 
+/// The closed edges of a ring: corner i to corner i + 1, the last to the first.
+pub fn edges(ring: &[Point]) -> impl Iterator<Item = (Point, Point)> {
+    let ends = ring.iter().cycle().skip(1);
+    ring.iter().copied().zip(ends.copied())
+}
+
 /// Cuts a list into consecutive parts of the given lengths.
 fn parts<T: Clone>(items: &[T], lengths: &[usize]) -> Vec<Vec<T>> {
     let mut rest = items;

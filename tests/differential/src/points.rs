@@ -1,15 +1,14 @@
 //! The points that are asked of a plan: on its corners, edges and the lines through them, beside
 //! them, and at the ends of the range.
 
-use crate::plan::{DOUBLED_LIMIT, GRID_LIMIT, Mode, Plan, Query};
+use crate::plan::{DOUBLED_LIMIT, GRID_LIMIT, Mode, Plan, Point, Query, edges};
 use crate::random::Random;
 
 /// A point in integers wide enough for sums and differences of any coordinates.
 type WidePoint = (i128, i128);
 
-/// A plan as the query points see it: for doubled points, its corners doubled.
+/// The edges of a plan and the range of its points, both doubled for doubled points.
 struct View {
-    corners: Vec<WidePoint>,
     edges: Vec<(WidePoint, WidePoint)>,
     limit: i64,
 }
@@ -40,7 +39,7 @@ const MAKERS: [Maker; 17] = [
 pub fn queries(random: &mut Random, plan: &Plan, count: usize) -> Vec<Query> {
     let grid = View::of(plan, 1, GRID_LIMIT);
     let doubled = View::of(plan, 2, DOUBLED_LIMIT);
-    let mut query = |_| {
+    let query = |_| {
         let (mode, view) = random.pick(&[(Mode::Grid, &grid), (Mode::Doubled, &doubled)]);
         let (x, y) = random.pick(&MAKERS)(random, view);
         Query {
@@ -49,7 +48,7 @@ pub fn queries(random: &mut Random, plan: &Plan, count: usize) -> Vec<Query> {
             y: narrow(y),
         }
     };
-    (0..count).map(&mut query).collect()
+    (0..count).map(query).collect()
 }
 
 /// The nearest 64-bit coordinate.
@@ -59,29 +58,13 @@ fn narrow(coordinate: i128) -> i64 {
 
 impl View {
     fn of(plan: &Plan, factor: i128, limit: i64) -> View {
-        let wide = |&(x, y): &(i64, i64)| (factor * i128::from(x), factor * i128::from(y));
-        let mut corners = Vec::new();
-        let mut edges = Vec::new();
-        for ring in plan.rings() {
-            let ring: Vec<WidePoint> = ring.iter().map(wide).collect();
-            let ends = ring.iter().cycle().skip(1);
-            edges.extend(ring.iter().copied().zip(ends.copied()));
-            corners.extend(ring);
-        }
+        let wide = |(x, y): Point| (factor * i128::from(x), factor * i128::from(y));
+        let rings = plan.rings();
+        let edges = rings.iter().flat_map(|ring| edges(ring));
         View {
-            corners,
-            edges,
+            edges: edges.map(|(a, b)| (wide(a), wide(b))).collect(),
             limit,
         }
-    }
-}
-
-/// A corner, or the origin where there is none.
-fn corner(random: &mut Random, view: &View) -> WidePoint {
-    if view.corners.is_empty() {
-        (0, 0)
-    } else {
-        random.pick(&view.corners)
     }
 }
 
@@ -92,6 +75,11 @@ fn edge(random: &mut Random, view: &View) -> (WidePoint, WidePoint) {
     } else {
         random.pick(&view.edges)
     }
+}
+
+/// A corner, or the origin where there is none.
+fn corner(random: &mut Random, view: &View) -> WidePoint {
+    edge(random, view).0
 }
 
 fn beside((x, y): WidePoint, random: &mut Random, reach: i64) -> WidePoint {
@@ -141,13 +129,14 @@ fn beside_edge(random: &mut Random, view: &View) -> WidePoint {
     beside(on_edge(random, view), random, 1)
 }
 
-/// Beside an edge, so close to its line as a whole-numbered point can be without lying on it.
+/// Beside an edge, as close to its line as a whole-numbered point can be without lying on it.
 fn closest_to_edge(random: &mut Random, view: &View) -> WidePoint {
     let (a, b) = edge(random, view);
     let (dx, dy) = (b.0 - a.0, b.1 - a.1);
     let CommonDivisor { divisor, factors } = common_divisor(dx, dy);
     let (mut u, mut v) = (-factors.1, factors.0);
-    if u * dx + v * dy < 0 {
+    let backwards = u.signum() * dx.signum() + v.signum() * dy.signum() < 0;
+    if backwards {
         (u, v) = (u + dx / divisor, v + dy / divisor);
     }
     random.pick(&[(a.0 + u, a.1 + v), (b.0 - u, b.1 - v)])

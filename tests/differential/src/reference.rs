@@ -1,6 +1,6 @@
 //! Document 01's rules, item by item and ring by ring, written from its text alone.
 
-use crate::plan::{DOUBLED_LIMIT, GRID_LIMIT, Kind, Mode, Plan, Query, within};
+use crate::plan::{DOUBLED_LIMIT, GRID_LIMIT, Kind, Mode, Plan, Point, Query, edges, within};
 
 /// A point in integers wide enough for every product.
 type WidePoint = (i128, i128);
@@ -38,7 +38,7 @@ impl Reference {
         Reference {
             kind: plan.kind,
             in_range: plan.in_range(),
-            rings: plan.rings().iter().map(|ring| edges(ring)).collect(),
+            rings: plan.rings().iter().map(|ring| wide_edges(ring)).collect(),
             ring_counts: plan.ring_counts.clone(),
         }
     }
@@ -77,12 +77,9 @@ impl Reference {
     }
 }
 
-/// Corner i to corner i + 1, the last to the first.
-fn edges(ring: &[(i64, i64)]) -> Edges {
-    let wide = |&(x, y): &(i64, i64)| (i128::from(x), i128::from(y));
-    let starts = ring.iter().map(wide);
-    let ends = ring.iter().cycle().skip(1).map(wide);
-    starts.zip(ends).collect()
+fn wide_edges(ring: &[Point]) -> Edges {
+    let wide = |(x, y): Point| (x.into(), y.into());
+    edges(ring).map(|(a, b)| (wide(a), wide(b))).collect()
 }
 
 /// Item 4: the outer ring unless the point is inside it, then the first hole that is not outside.

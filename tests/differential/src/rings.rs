@@ -215,12 +215,12 @@ fn scattered_far(random: &mut Random, count: usize) -> Ring {
 fn walk(random: &mut Random, count: usize) -> Ring {
     let (mut x, mut y) = (0, 0);
     let reach = random.between(1, 9);
-    let mut step = |_| {
+    let step = |_| {
         x += random.between(-reach, reach);
         y += random.between(-reach, reach);
         (x, y)
     };
-    (0..count).map(&mut step).collect()
+    (0..count).map(step).collect()
 }
 
 /// Teeth of varied height over a straight base.
@@ -237,7 +237,7 @@ fn comb(random: &mut Random, count: usize) -> Ring {
 fn spiral(random: &mut Random, count: usize) -> Ring {
     let (mut x, mut y) = (0, 0);
     let gap = random.between(1, 4);
-    let mut turn = |step: usize| {
+    let turn = |step: usize| {
         let length = gap * (step as i64 / 2 + 1);
         match step % 4 {
             0 => x += length,
@@ -247,14 +247,14 @@ fn spiral(random: &mut Random, count: usize) -> Ring {
         }
         (x, y)
     };
-    let ring = (0..count).map(&mut turn).collect();
+    let ring = (0..count).map(turn).collect();
     either_way_round(random, ring)
 }
 
 /// Steps up and to the right, closed by one long edge.
 fn staircase(random: &mut Random, count: usize) -> Ring {
     let (mut x, mut y) = (0, 0);
-    let mut step = |number: usize| {
+    let step = |number: usize| {
         let length = random.between(1, 4);
         if number.is_multiple_of(2) {
             x += length;
@@ -263,5 +263,5 @@ fn staircase(random: &mut Random, count: usize) -> Ring {
         }
         (x, y)
     };
-    (0..count).map(&mut step).collect()
+    (0..count).map(step).collect()
 }

@@ -30,7 +30,7 @@ const SIZE: Size = Size {
 pub struct Summary {
     plans: [usize; 2],
     out_of_range: usize,
-    most_corners: usize,
+    corner_counts: Vec<usize>,
     replies: [[usize; 3]; 2],
 }
 
@@ -85,7 +85,7 @@ impl Summary {
     fn count(&mut self, plan: &Plan, queries: &[Query], replies: &[u8]) {
         self.plans[plan.kind as usize] += 1;
         self.out_of_range += usize::from(!plan.in_range());
-        self.most_corners = self.most_corners.max(plan.corners().len());
+        self.corner_counts.push(plan.corners().len());
         for (query, &reply) in queries.iter().zip(replies) {
             self.replies[query.mode as usize][usize::from(reply)] += 1;
         }
@@ -97,7 +97,10 @@ impl Display for Summary {
         let [lists, trees] = [Kind::List, Kind::Tree].map(|kind| self.plans[kind as usize]);
         writeln!(f, "plans: {lists} lists, {trees} trees")?;
         writeln!(f, "plans out of range: {}", self.out_of_range)?;
-        writeln!(f, "most corners in a plan: {}", self.most_corners)?;
+        for bound in [8, 64, 256] {
+            let above = self.corner_counts.iter().filter(|&&count| count > bound);
+            writeln!(f, "plans of more than {bound} edges: {}", above.count())?;
+        }
         for (name, mode) in [("grid", Mode::Grid), ("doubled", Mode::Doubled)] {
             let [outside, inside, boundary] = self.replies[mode as usize];
             writeln!(

@@ -1,0 +1,51 @@
+-- Worked examples of what no case of P1 to P12 holds: the ends of item 3's rule, at a point level with two corners, and which ray
+-- counts which edge. Assumes nothing.
+use mathlib.Core.Path.{_≡_, refl}
+use mathlib.Core.List.{List, [], _∷_, map, reverse}
+use lib.IntN.{ℤ, pos, negsuc}
+use Rattle.geom.specs.declared.Point.{Point}
+use Rattle.predicates.specs.Turn.{orientation, onSegment}
+use Rattle.rules.specs.declared.Location.the-variants.{Inside}
+use Rattle.rules.specs.declared.Ray.{Ray}
+use Rattle.rules.specs.declared.Ray.the-variants.{Right, Left, Up, Down}
+use Rattle.rules.specs.Edges.{edgesFrom, edgesOf, allEdges, edgeWinding, winding, onEdge}
+use Rattle.rules.specs.Lists.{anyOf, countOf, sumOf}
+use Rattle.rules.specs.Rays.{windingOn}
+use Rattle.rules.specs.Replies.{ringReply, doubledEdges, halfReply}
+
+abbrev at : ℤ → ℤ → Point
+at x y = record { x = x; y = y }
+
+-- (0, 0) (5, −5) (10, 0) (5, 5)
+abbrev diamond : List Point
+diamond = at (pos 0) (pos 0) ∷ at (pos 5) (negsuc 4) ∷ at (pos 10) (pos 0) ∷ at (pos 5) (pos 5) ∷ []
+
+-- what a list of corners counts on each ray
+abbrev onEach : List Point → Point → List ℤ
+onEach ring p = map (λ ray. sumOf (λ e. windingOn ray (e .0) (e .1) p) (edgesOf ring)) (Right ∷ Left ∷ Up ∷ Down ∷ [])
+
+-- each ray from (5, 0) passes through a corner, and counts 1; the other way round it counts −1
+counter-clockwise : onEach diamond (at (pos 5) (pos 0)) ≡ pos 1 ∷ pos 1 ∷ pos 1 ∷ pos 1 ∷ []
+unfolding orientation edgesFrom edgesOf edgeWinding sumOf windingOn
+counter-clockwise = refl
+
+clockwise : onEach (reverse diamond) (at (pos 5) (pos 0)) ≡ negsuc 0 ∷ negsuc 0 ∷ negsuc 0 ∷ negsuc 0 ∷ []
+unfolding orientation edgesFrom edgesOf edgeWinding sumOf windingOn
+clockwise = refl
+
+-- an edge right of (0, 0), left of it, above it and below it, each counter-clockwise round it: one ray alone counts it
+abbrev countedOn : ℤ → ℤ → ℤ → ℤ → List ℤ
+countedOn ax ay bx by = map (λ ray. windingOn ray (at ax ay) (at bx by) (at (pos 0) (pos 0))) (Right ∷ Left ∷ Up ∷ Down ∷ [])
+
+only-one : countedOn (pos 5) (negsuc 0) (pos 5) (pos 1) ∷ countedOn (negsuc 4) (pos 1) (negsuc 4) (negsuc 0) ∷ countedOn (pos 1) (pos 5) (negsuc 0) (pos 5) ∷ countedOn (negsuc 0) (negsuc 4) (pos 1) (negsuc 4) ∷ []
+    ≡ (pos 1 ∷ pos 0 ∷ pos 0 ∷ pos 0 ∷ []) ∷ (pos 0 ∷ pos 1 ∷ pos 0 ∷ pos 0 ∷ []) ∷ (pos 0 ∷ pos 0 ∷ pos 1 ∷ pos 0 ∷ []) ∷ (pos 0 ∷ pos 0 ∷ pos 0 ∷ pos 1 ∷ []) ∷ []
+unfolding orientation edgeWinding windingOn
+only-one = refl
+
+on-the-grid : ringReply diamond (at (pos 5) (pos 0)) ≡ Inside
+unfolding orientation onSegment edgesFrom edgesOf edgeWinding winding onEdge anyOf sumOf ringReply
+on-the-grid = refl
+
+on-the-half-grid : halfReply (diamond ∷ []) (at (pos 10) (pos 0)) ≡ Inside
+unfolding orientation onSegment edgesFrom edgesOf allEdges edgeWinding onEdge anyOf countOf doubledEdges halfReply
+on-the-half-grid = refl
