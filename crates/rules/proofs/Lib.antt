@@ -1,4 +1,5 @@
 pub mod Cases
+pub mod Corners
 pub mod Flags
 pub mod RaySigns
 pub mod RayEdges

@@ -72,9 +72,12 @@ planVerdict plan = cond (tooMany plan) (Refused TooMany) (cond (uneven plan) (Re
 
 -- ---- the replies
 
--- item 6: every corner of the plan is in range
+-- item 6: every corner is in range
+unfoldable pub allInRange : List Point → Bool
+allInRange corners = not (anyOf (λ corner. not (inRange corner)) corners)
+
 unfoldable pub planInRange : Plan → Bool
-planInRange plan = not (anyOf (λ corner. not (inRange corner)) (cornersOf (plan .coordinates)))
+planInRange plan = allInRange (cornersOf (plan .coordinates))
 
 abbrev pub kindReply : Kind → Plan → Point → Location
 kindReply Polygons plan p = listReply (polygonsOf plan) p
