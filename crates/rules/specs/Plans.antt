@@ -1,10 +1,10 @@
 -- A plan, its refusals 4 and 3, and its replies under the range rule (document 01, items 4, 6 and 7, "From the input").
 use mathlib.Core.Bool.{Bool, true, false, not, cond, _&&_, _||_}
 use mathlib.Core.List.{List, [], _∷_}
-use Prim.Native.Nat.{ℕ, _/_}
+use Prim.Native.Nat.{ℕ, _+_, _*_, _/_}
 use lib.Dec.{eqb, ltb}
-use lib.IntN.{ℤ}
-use lib.ListN.{length}
+use lib.IntN.{ℤ, pos}
+use lib.ListN.{length, getD}
 use Rattle.geom.specs.declared.Point.{Point}
 use Rattle.geom.specs.Range.{inRange, inDoubledRange}
 use Rattle.rules.specs.declared.Kind.{Kind}
@@ -32,6 +32,10 @@ unfoldable pub cornersOf : List ℤ → List Point
 cornersOf [] = []
 cornersOf (x ∷ []) = []
 cornersOf (x ∷ y ∷ rest) = record { x = x; y = y } ∷ cornersOf rest
+
+-- corner i, by its place in the coordinates
+abbrev pub cornerAt : List ℤ → ℕ → Point
+cornerAt coordinates i = record { x = getD coordinates (2 * i) (pos 0); y = getD coordinates (2 * i + 1) (pos 0) }
 
 -- the rings in plan order
 unfoldable pub ringsOf : Plan → List (List Point)
