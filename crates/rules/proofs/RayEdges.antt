@@ -48,7 +48,7 @@ unfolding orientation
 about-point a b p =
     ring₆ (λ a c b d p q. (b :- a) :* (q :- c) :- (d :- c) :* (p :- a)) (λ a c b d p q. (a :- p) :* (d :- q) :- (c :- q) :* (b :- p)) refl (a .x) (a .y) (b .x) (b .y) (p .x) (p .y)
 
-turn-possible : (a b p : Point) → T (possible (signOf (a .x -ℤ p .x)) (signOf (a .y -ℤ p .y)) (signOf (b .x -ℤ p .x)) (signOf (b .y -ℤ p .y)) (signOf (orientation a b p)))
+pub turn-possible : (a b p : Point) → T (possible (signOf (a .x -ℤ p .x)) (signOf (a .y -ℤ p .y)) (signOf (b .x -ℤ p .x)) (signOf (b .y -ℤ p .y)) (signOf (orientation a b p)))
 turn-possible a b p =
     rw (about-point a b p, ← sign-mul (a .x -ℤ p .x) (b .y -ℤ p .y), ← sign-mul (a .y -ℤ p .y) (b .x -ℤ p .x))
     (agree-ok ((a .x -ℤ p .x) *ℤ (b .y -ℤ p .y)) ((a .y -ℤ p .y) *ℤ (b .x -ℤ p .x)))

@@ -67,10 +67,10 @@ potential Left x y = cond (isPositive y || (isZero y && isNegative x)) (pos 1) (
 potential Down x y = cond (isPositive x && not (isPositive y)) (pos 0) (pos 1)
 
 -- ---- all signs at once
-abbrev all : (Sign → Bool) → Bool
+abbrev pub all : (Sign → Bool) → Bool
 all test = test Negative && (test Zero && test Positive)
 
-abbrev all5 : (Sign → Sign → Sign → Sign → Sign → Bool) → Bool
+abbrev pub all5 : (Sign → Sign → Sign → Sign → Sign → Bool) → Bool
 all5 test = all (λ a. all (λ b. all (λ c. all (λ d. all (λ e. test a b c d e)))))
 
 all-at : (test : Sign → Bool) → T (all test) → (s : Sign) → T (test s)
@@ -78,7 +78,7 @@ all-at test t Negative = and-left (test Negative) (test Zero && test Positive) t
 all-at test t Zero = and-left (test Zero) (test Positive) (and-right (test Negative) (test Zero && test Positive) t)
 all-at test t Positive = and-right (test Zero) (test Positive) (and-right (test Negative) (test Zero && test Positive) t)
 
-all5-at : (test : Sign → Sign → Sign → Sign → Sign → Bool) → T (all5 test) → (a b c d e : Sign) → T (test a b c d e)
+pub all5-at : (test : Sign → Sign → Sign → Sign → Sign → Bool) → T (all5 test) → (a b c d e : Sign) → T (test a b c d e)
 all5-at test t a b c d e =
     all-at (λ e. test a b c d e) (all-at (λ d. all (λ e. test a b c d e)) (all-at (λ c. all (λ d. all (λ e. test a b c d e))) (all-at (λ b. all (λ c. all (λ d. all (λ e. test a b c d e)))) (all-at (λ a. all (λ b. all (λ c. all (λ d. all (λ e. test a b c d e))))) t a) b) c) d) e
 

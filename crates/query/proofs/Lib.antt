@@ -1,0 +1,3 @@
+pub mod EdgeCounts
+pub mod Rounds
+pub mod Parts
