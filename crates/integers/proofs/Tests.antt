@@ -25,6 +25,14 @@ pub and-true : (a b : Bool) → a && b ≡ true → (a ≡ true) × (b ≡ true)
 and-true true b e = (refl, e)
 and-true false b e = absurd (true-T e)
 
+pub not-true : (b : Bool) → not b ≡ true → b ≡ false
+not-true true e = absurd (subst T (sym e) tt)
+not-true false e = refl
+
+pub not-false : (b : Bool) → not b ≡ false → b ≡ true
+not-false true e = refl
+not-false false e = absurd (subst T e tt)
+
 pub not-both : (b : Bool) → (b ≡ true → ⊥) → b ≡ false
 not-both true f = absurd (f refl)
 not-both false f = refl

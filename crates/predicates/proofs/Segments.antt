@@ -1,20 +1,11 @@
 -- The closed segment by its two tests. Assumes nothing.
-use mathlib.Core.Path.{_≡_, refl, _∙_, ap, sym, subst}
-use mathlib.Core.Bool.{Bool, true, false, not, _&&_}
-use lib.Dec.{T}
+use mathlib.Core.Path.{_≡_, refl, _∙_, ap, sym}
+use mathlib.Core.Bool.{Bool, true, false, _&&_}
 use Rattle.integers.specs.declared.Sign.{Sign}
 use Rattle.integers.specs.Signs.{signOf, isZero}
 use Rattle.geom.specs.declared.Point.{Point}
 use Rattle.geom.specs.Boxes.{rectOf, holdsPoint}
 use Rattle.predicates.specs.Turn.{orientation, onSegment}
-
-pub not-true : (b : Bool) → not b ≡ true → b ≡ false
-not-true true e = absurd (subst T (sym e) tt)
-not-true false e = refl
-
-pub not-false : (b : Bool) → not b ≡ false → b ≡ true
-not-false true e = refl
-not-false false e = absurd (subst T e tt)
 
 and-false : (b : Bool) → b && false ≡ false
 and-false true = refl

@@ -1,2 +1,4 @@
 pub mod Crossings
 pub mod Parts
+pub mod Rows
+pub mod Shapes

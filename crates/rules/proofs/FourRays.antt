@@ -64,7 +64,7 @@ unfoldable pub oddly : (Edge → Bool) → List Edge → Bool
 oddly test [] = false
 oddly test (e ∷ es) = xor (test e) (oddly test es)
 
-odd-suc : (n : ℕ) → isOdd (suc n) ≡ not (isOdd n)
+pub odd-suc : (n : ℕ) → isOdd (suc n) ≡ not (isOdd n)
 odd-suc n = go (eqb (n % 2) 1) refl
   where
     go : (b : Bool) → eqb (n % 2) 1 ≡ b → eqb (suc n % 2) 1 ≡ not b

@@ -4,7 +4,8 @@ use mathlib.Core.Bool.{true}
 use borrow.Author.Needs.{needs}
 use Rattle.integers.specs.declared.Sign.the-variants.{Negative, Zero, Positive}
 use Rattle.geom.specs.Boxes.{rectOf, holdsPoint}
-use Rattle.predicates.proofs.Segments.{not-true, not-false, off-box, in-box}
+use Rattle.integers.proofs.Tests.{not-true, not-false}
+use Rattle.predicates.proofs.Segments.{off-box, in-box}
 use Rattle.predicates.proofs.on_segment.Statement.{statement}
 use Rattle.predicates.proofs.on_segment.Tie as tie
 

@@ -1,0 +1,42 @@
+-- What the calls over a ring table of either form promise: on entries that fit the reply of item 4, and otherwise some place or 15.
+use mathlib.Core.Path.{_≡_}
+use mathlib.Core.Bool.{Bool, true, false, not}
+use mathlib.Core.Logic.{_⊎_}
+use mathlib.Core.List.{List}
+use Prim.Native.Nat.{ℕ}
+use Rattle.rules.specs.declared.Location.{Location}
+use Rattle.rules.specs.declared.Location.the-variants.{Outside, Inside, OnBoundary}
+use Rattle.rules.specs.declared.Refusal.the-variants.{Unsound}
+use Rattle.rules.specs.declared.Reply.{Reply}
+use Rattle.rules.specs.declared.Reply.the-variants.{At, Refused}
+use Rattle.query.specs.declared.rows.Form.{Form}
+use Rattle.query.specs.Rows.{Within}
+
+abbrev pub isOutside : Location → Bool
+isOutside Outside = true
+isOutside Inside = false
+isOutside OnBoundary = false
+
+abbrev pub isInside : Location → Bool
+isInside Outside = false
+isInside Inside = true
+isInside OnBoundary = false
+
+abbrev pub isBoundary : Location → Bool
+isBoundary Outside = false
+isBoundary Inside = false
+isBoundary OnBoundary = true
+
+abbrev pub flippedBy : Bool → Location → Bool
+flippedBy odd Outside = odd
+flippedBy odd Inside = not odd
+flippedBy odd OnBoundary = odd
+
+-- a place or 15
+abbrev pub Placed : Reply → Type 0
+Placed r = ((location : Location) × (r ≡ At location)) ⊎ (r ≡ Refused Unsound)
+
+-- a place or 15, and this place where every entry fits
+pub record Shown (form : Form) (limit start : ℕ) (table : List ℕ) (location : Location) (r : Reply) : Type 0 where
+  pub placed : Placed r
+  pub exact : Within form limit start table → r ≡ At location

@@ -1,0 +1,65 @@
+// Where a point lies in a polygon, a list of polygons and a tree (document 01, item 4), over a ring table of either form.
+ghost use Prim.Native.Nat.{_*_, _/_, _≤_};
+ghost use lib.ListN.{length};
+ghost use Rattle.rules.specs.Plans.{cornersOf};
+ghost use Rattle.rules.specs.Replies.{holesReply, polygonReply, treeReply};
+ghost use Rattle.query.specs.Rows.{partsFrom};
+ghost use Rattle.query.specs.Shapes.{Shown};
+use crate::places::flipped;
+use crate::places::is_boundary;
+use crate::places::is_outside;
+use crate::places::odd_place;
+use crate::places::through_hole;
+use crate::ring::ring_reply;
+use crate::rows::End;
+use crate::rows::Form;
+use crate::rows::end_of;
+use geom::Point;
+use rules::Location;
+use rules::Refusal;
+use rules::Reply;
+
+// The holes in order: the first that the point is not outside of decides, and no later one is looked at.
+fn holes_reply(form: Form, coordinates: &[i64], rings: &[usize], start: usize, p: Point) -> Reply
+    requires { ⌜ 2 * start ≤ length (now coordinates) ⌝ }
+    ensures { λ r. ⌜ Shown form (length (now (coordinates .entry)) / 2) start (now (rings .entry)) (holesReply (partsFrom form (cornersOf (now (coordinates .entry))) start (now (rings .entry))) p) r ⌝ }
+{
+    let limit = coordinates.len() / 2;
+    let mut at = start;
+    let mut k: usize = 0;
+    while k < rings.len() {
+        let End::At(end) = end_of(form, rings, k, at, limit) else {
+            return Reply::Refused(Refusal::Unsound);
+        };
+        let location = ring_reply(coordinates, at, end, p);
+        if !is_outside(location) {
+            return Reply::At(through_hole(location));
+        }
+        at = end;
+        k += 1;
+    }
+    Reply::At(Location::Inside)
+}
+
+/// Where p lies in a tree: on any ring's boundary, or else inside exactly if an odd number of rings go round it.
+pub fn tree_reply(form: Form, coordinates: &[i64], rings: &[usize], p: Point) -> Reply
+    ensures { λ r. ⌜ Shown form (length (now (coordinates .entry)) / 2) 0 (now (rings .entry)) (treeReply (partsFrom form (cornersOf (now (coordinates .entry))) 0 (now (rings .entry))) p) r ⌝ }
+{
+    let limit = coordinates.len() / 2;
+    let mut odd = false;
+    let mut at: usize = 0;
+    let mut k: usize = 0;
+    while k < rings.len() {
+        let End::At(end) = end_of(form, rings, k, at, limit) else {
+            return Reply::Refused(Refusal::Unsound);
+        };
+        let location = ring_reply(coordinates, at, end, p);
+        if is_boundary(location) {
+            return Reply::At(Location::OnBoundary);
+        }
+        odd = flipped(odd, location);
+        at = end;
+        k += 1;
+    }
+    Reply::At(odd_place(odd))
+}
