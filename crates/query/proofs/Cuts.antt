@@ -5,8 +5,8 @@ use mathlib.Core.List.{List, [], _∷_}
 use Prim.Native.Nat.{ℕ, zero, suc, _+_, _-_, _≤_, _<_}
 use native.Mathlib.Numerals.{add-one}
 use native.Mathlib.Omega.{arith}
-use lib.ListN.{length, getD, take, drop, drop-of-length-le}
-use lib.Seq.{drop-cons, drop-drop}
+use lib.ListN.{length, getD, take, drop, drop-of-length-le, length-drop}
+use lib.Seq.{drop-cons, drop-drop, take-all}
 use Rattle.rules.specs.Lists.{partsOf, total}
 use Rattle.rules.specs.Tables.{endsFrom, lengthsFrom}
 use Rattle.query.specs.declared.rows.Form.{Form}
@@ -47,6 +47,10 @@ end-step form start table k h = ap (endBy form start) (table-cons table k h)
 
 pub none-left : {A : Type 0} (xs : List A) (k : ℕ) → length xs ≤ k → drop k xs ≡ []
 none-left xs k h = drop-of-length-le xs {i = k} h
+
+-- a part that reaches the end is the rest
+pub to-the-end : {A : Type 0} (xs : List A) (k : ℕ) → part xs k (length xs) ≡ drop k xs
+to-the-end xs k = take-all (length xs - k) (drop k xs) (omega (arith, length-drop k xs))
 
 pub done : (form : Form) (table : List ℕ) (k start : ℕ) → length table ≤ k → start ≡ endBy form start (drop k table)
 unfolding endBy

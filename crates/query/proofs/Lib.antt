@@ -2,5 +2,6 @@ pub mod EdgeCounts
 pub mod Rounds
 pub mod Parts
 pub mod Cuts
+pub mod Alignment
 pub mod Progress
 pub mod Steps

@@ -7,6 +7,9 @@ use lib.Dec.{T}
 use Rattle.geom.specs.declared.Point.{Point}
 use Rattle.rules.specs.declared.Location.{Location}
 use Rattle.rules.specs.declared.Location.the-variants.{Outside, Inside, OnBoundary}
+use Rattle.rules.specs.declared.Refusal.{Refusal}
+use Rattle.rules.specs.declared.Reply.{Reply}
+use Rattle.rules.specs.declared.Reply.the-variants.{At, Refused}
 use Rattle.rules.specs.Edges.{edgesOf, winding, onEdge}
 use Rattle.rules.specs.Lists.{anyOf, countOf, isOdd}
 use Rattle.rules.specs.Replies.{isNonzero, ringReply, byHole, holesReply, withinOuter, polygonReply, stronger, listReply, treeReply}
@@ -105,6 +108,16 @@ pub outer-first : (p : Point) (rings : List (List Point)) (outer : List Point) (
 unfolding polygonReply
 outer-first p rings outer holes e = ap (λ r. polygonReply r p) e
 
+pub outer-decides : (outer holes : Location) → isInside outer ≡ false → withinOuter outer holes ≡ outer
+outer-decides Outside holes e = refl
+outer-decides Inside holes e = absurd (subst T e tt)
+outer-decides OnBoundary holes e = refl
+
+pub outer-inside : (outer holes : Location) → isInside outer ≡ true → withinOuter outer holes ≡ holes
+outer-inside Outside holes e = absurd (subst T (sym e) tt)
+outer-inside Inside holes e = refl
+outer-inside OnBoundary holes e = absurd (subst T (sym e) tt)
+
 -- the strongest reply so far, and the polygons still to come
 abbrev pub Weighed : List (List (List Point)) → Point → Location → List (List (List Point)) → Type 0
 Weighed polygons p best later = listReply polygons p ≡ stronger best (listReply later p)
@@ -138,3 +151,20 @@ only-inside OnBoundary e = absurd (subst T (sym e) tt)
 
 pub inside-wins : (polygons : List (List (List Point))) (p : Point) (best : Location) (later : List (List (List Point))) → isInside best ≡ true → Weighed polygons p best later → Inside ≡ listReply polygons p
 inside-wins polygons p best later e w = sym (w ∙ ap (λ l. stronger l (listReply later p)) (only-inside best e))
+
+-- ---- replies
+placeIn : Reply → Location
+placeIn (At place) = place
+placeIn (Refused refusal) = Outside
+
+pub same-place : (a b : Location) → At a ≡ At b → a ≡ b
+unfolding placeIn
+same-place a b e = ap placeIn e
+
+isAt : Reply → Bool
+isAt (At place) = true
+isAt (Refused refusal) = false
+
+pub at-refused : (a : Location) (r : Refusal) → At a ≡ Refused r → ⊥
+unfolding isAt
+at-refused a r e = subst T (ap isAt e) tt

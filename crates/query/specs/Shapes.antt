@@ -3,14 +3,19 @@ use mathlib.Core.Path.{_≡_}
 use mathlib.Core.Bool.{Bool, true, false, not}
 use mathlib.Core.Logic.{_⊎_}
 use mathlib.Core.List.{List}
-use Prim.Native.Nat.{ℕ}
+use Prim.Native.Nat.{ℕ, _/_}
+use lib.IntN.{ℤ}
+use lib.ListN.{length}
+use Rattle.geom.specs.declared.Point.{Point}
 use Rattle.rules.specs.declared.Location.{Location}
 use Rattle.rules.specs.declared.Location.the-variants.{Outside, Inside, OnBoundary}
 use Rattle.rules.specs.declared.Refusal.the-variants.{Unsound}
 use Rattle.rules.specs.declared.Reply.{Reply}
 use Rattle.rules.specs.declared.Reply.the-variants.{At, Refused}
 use Rattle.query.specs.declared.rows.Form.{Form}
-use Rattle.query.specs.Rows.{Within}
+use Rattle.rules.specs.Plans.{cornersOf}
+use Rattle.rules.specs.Replies.{listReply}
+use Rattle.query.specs.Rows.{Within, partsFrom}
 
 abbrev pub isOutside : Location → Bool
 isOutside Outside = true
@@ -40,3 +45,9 @@ Placed r = ((location : Location) × (r ≡ At location)) ⊎ (r ≡ Refused Uns
 pub record Shown (form : Form) (limit start : ℕ) (table : List ℕ) (location : Location) (r : Reply) : Type 0 where
   pub placed : Placed r
   pub exact : Within form limit start table → r ≡ At location
+
+-- the same of a list, whose polygon table cuts the rings
+pub record ListShown (form : Form) (coordinates : List ℤ) (rings polygons : List ℕ) (p : Point) (r : Reply) : Type 0 where
+  pub placed : Placed r
+  pub exact : Within form (length coordinates / 2) 0 rings → Within form (length rings) 0 polygons
+      → r ≡ At (listReply (partsFrom form (partsFrom form (cornersOf coordinates) 0 rings) 0 polygons) p)

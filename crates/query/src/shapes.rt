@@ -4,16 +4,19 @@ ghost use lib.ListN.{length};
 ghost use Rattle.rules.specs.Plans.{cornersOf};
 ghost use Rattle.rules.specs.Replies.{holesReply, polygonReply, treeReply};
 ghost use Rattle.query.specs.Rows.{partsFrom};
-ghost use Rattle.query.specs.Shapes.{Shown};
+ghost use Rattle.query.specs.Shapes.{Shown, ListShown};
 use crate::places::flipped;
 use crate::places::is_boundary;
+use crate::places::is_inside;
 use crate::places::is_outside;
 use crate::places::odd_place;
+use crate::places::stronger;
 use crate::places::through_hole;
 use crate::ring::ring_reply;
 use crate::rows::End;
 use crate::rows::Form;
 use crate::rows::end_of;
+use crate::rows::end_of_all;
 use geom::Point;
 use rules::Location;
 use rules::Refusal;
@@ -62,4 +65,60 @@ pub fn tree_reply(form: Form, coordinates: &[i64], rings: &[usize], p: Point) ->
         k += 1;
     }
     Reply::At(odd_place(odd))
+}
+
+/// Where p lies in a polygon: its outer ring and then its holes.
+fn polygon_reply(form: Form, coordinates: &[i64], rings: &[usize], start: usize, p: Point) -> Reply
+    requires { ⌜ 2 * start ≤ length (now coordinates) ⌝ }
+    ensures { λ r. ⌜ Shown form (length (now (coordinates .entry)) / 2) start (now (rings .entry)) (polygonReply (partsFrom form (cornersOf (now (coordinates .entry))) start (now (rings .entry))) p) r ⌝ }
+{
+    if rings.len() == 0 {
+        return Reply::At(Location::Outside);
+    }
+    let limit = coordinates.len() / 2;
+    let End::At(end) = end_of(form, rings, 0, start, limit) else {
+        return Reply::Refused(Refusal::Unsound);
+    };
+    let outer = ring_reply(coordinates, start, end, p);
+    if !is_inside(outer) {
+        return Reply::At(outer);
+    }
+    holes_reply(form, coordinates, &rings[1..], end, p)
+}
+
+/// Where p lies in a list of polygons: inside any of them wins, then boundary, then outside.
+pub fn list_reply(
+    form: Form,
+    coordinates: &[i64],
+    rings: &[usize],
+    polygons: &[usize],
+    p: Point,
+) -> Reply
+    ensures { λ r. ⌜ ListShown form (now (coordinates .entry)) (now (rings .entry)) (now (polygons .entry)) p r ⌝ }
+{
+    let limit = coordinates.len() / 2;
+    let mut best = Location::Outside;
+    let mut first: usize = 0;
+    let mut start: usize = 0;
+    let mut k: usize = 0;
+    while k < polygons.len() {
+        let End::At(last) = end_of(form, polygons, k, first, rings.len()) else {
+            return Reply::Refused(Refusal::Unsound);
+        };
+        let polygon = &rings[first..last];
+        let Reply::At(place) = polygon_reply(form, coordinates, polygon, start, p) else {
+            return Reply::Refused(Refusal::Unsound);
+        };
+        let End::At(next) = end_of_all(form, polygon, start, limit) else {
+            return Reply::Refused(Refusal::Unsound);
+        };
+        best = stronger(best, place);
+        if is_inside(best) {
+            return Reply::At(Location::Inside);
+        }
+        first = last;
+        start = next;
+        k += 1;
+    }
+    Reply::At(best)
 }
