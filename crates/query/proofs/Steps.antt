@@ -11,9 +11,8 @@ use Rattle.rules.specs.declared.Refusal.{Refusal}
 use Rattle.rules.specs.declared.Reply.{Reply}
 use Rattle.rules.specs.declared.Reply.the-variants.{At, Refused}
 use Rattle.rules.specs.Edges.{edgesOf, winding, onEdge}
-use Rattle.rules.specs.Lists.{anyOf, countOf, isOdd}
+use Rattle.rules.specs.Lists.{anyOf, countOf, isOdd, xor}
 use Rattle.rules.specs.Replies.{isNonzero, ringReply, byHole, holesReply, withinOuter, polygonReply, stronger, listReply, treeReply}
-use Rattle.rules.proofs.Flags.{xor}
 use Rattle.rules.proofs.FourRays.{odd-suc}
 use Rattle.query.specs.Shapes.{isOutside, isInside, isBoundary, flippedBy}
 

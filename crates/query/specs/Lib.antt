@@ -1,4 +1,5 @@
 pub mod Crossings
+pub mod Half
 pub mod Parts
 pub mod Rows
 pub mod Shapes

@@ -2,6 +2,7 @@
 use mathlib.Core.Path.{_≡_, refl, sym, _∙_, ap, subst}
 use mathlib.Core.Bool.{Bool, true, false, not, cond, _&&_, _||_}
 use lib.Dec.{T}
+use Rattle.rules.specs.Lists.{xor}
 
 pub and-left : (a b : Bool) → T (a && b) → T a
 and-left true b t = tt
@@ -33,10 +34,6 @@ same-is false true t = absurd t
 same-is false false t = refl
 
 -- ---- parity
-abbrev pub xor : Bool → Bool → Bool
-xor true b = not b
-xor false b = b
-
 pub xor-assoc : (a b c : Bool) → xor (xor a b) c ≡ xor a (xor b c)
 xor-assoc true true true = refl
 xor-assoc true true false = refl

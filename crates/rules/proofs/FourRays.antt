@@ -14,10 +14,10 @@ use Rattle.geom.specs.declared.Point.{Point}
 use Rattle.predicates.specs.Turn.{onSegment}
 use Rattle.rules.specs.declared.Ray.{Ray}
 use Rattle.rules.specs.Edges.{Edge, edgesFrom, edgesOf, allEdges, edgeWinding, winding, onEdge}
-use Rattle.rules.specs.Lists.{anyOf, countOf, sumOf, isOdd}
+use Rattle.rules.specs.Lists.{anyOf, countOf, sumOf, isOdd, xor}
 use Rattle.rules.specs.Rays.{windingOn}
 use Rattle.rules.specs.Replies.{isNonzero}
-use Rattle.rules.proofs.Flags.{or-false, xor, xor-assoc, xor-comm, xor-step, xor-cancel}
+use Rattle.rules.proofs.Flags.{or-false, xor-assoc, xor-comm, xor-step, xor-cancel}
 use Rattle.rules.proofs.RayEdges.{potentialAt, edge-winding, edge-parity}
 
 -- ---- the point is on none of the edges

@@ -18,7 +18,7 @@ use Rattle.rules.specs.declared.Ray.the-variants.{Right, Left, Up, Down}
 use Rattle.rules.specs.Edges.{edgeWinding}
 use Rattle.rules.specs.Rays.{turned, windingOn, meetsRay}
 use Rattle.rules.specs.Replies.{isNonzero}
-use Rattle.rules.proofs.Flags.{xor}
+use Rattle.rules.specs.Lists.{xor}
 use Rattle.rules.proofs.RaySigns.{windingBy, windingTurned, low, high, onBy, xTurned, yTurned, meetsBy, possible, potential, winding-signs, parity-signs, box-signs, on-signs}
 
 -- ---- the definitions, by signs

@@ -13,7 +13,8 @@ use Rattle.integers.proofs.Signs.{opposite, times, agree}
 use Rattle.rules.specs.declared.Ray.{Ray}
 use Rattle.rules.specs.declared.Ray.the-variants.{Right, Left, Up, Down}
 use Rattle.rules.specs.Replies.{isNonzero}
-use Rattle.rules.proofs.Flags.{and-left, and-right, remaining, same, same-is, xor}
+use Rattle.rules.specs.Lists.{xor}
+use Rattle.rules.proofs.Flags.{and-left, and-right, remaining, same, same-is}
 
 -- ---- the rules, of signs
 

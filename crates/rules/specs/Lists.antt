@@ -1,5 +1,5 @@
 -- What the rules say of lists: some of them, how many of them, all of them together.
-use mathlib.Core.Bool.{Bool, true, false, cond, _||_}
+use mathlib.Core.Bool.{Bool, true, false, not, cond, _||_}
 use mathlib.Core.List.{List, [], _∷_}
 use Prim.Native.Nat.{ℕ, suc, _+_, _%_}
 use lib.Dec.{eqb}
@@ -25,6 +25,11 @@ sumOf weight (x ∷ xs) = weight x +ℤ sumOf weight xs
 unfoldable pub total : List ℕ → ℕ
 total [] = 0
 total (n ∷ ns) = n + total ns
+
+-- one of two and not both
+abbrev pub xor : Bool → Bool → Bool
+xor true b = not b
+xor false b = b
 
 abbrev pub isOdd : ℕ → Bool
 isOdd n = eqb (n % 2) 1
