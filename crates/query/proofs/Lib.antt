@@ -4,5 +4,7 @@ pub mod Parts
 pub mod Cuts
 pub mod Alignment
 pub mod Halving
+pub mod Fits
+pub mod LookUps
 pub mod Progress
 pub mod Steps

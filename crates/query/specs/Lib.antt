@@ -1,3 +1,4 @@
+pub mod Calls
 pub mod Crossings
 pub mod Half
 pub mod Parts

@@ -3,6 +3,12 @@
 mod crossings;
 mod half;
 mod places;
+mod plan;
 mod ring;
 mod rows;
 mod shapes;
+
+pub use plan::locate;
+pub use plan::locate_by_rings;
+pub use plan::locate_doubled;
+pub use plan::locate_doubled_by_rings;
