@@ -3,6 +3,7 @@ pub mod Rounds
 pub mod Parts
 pub mod Cuts
 pub mod Alignment
+pub mod Caught
 pub mod Halving
 pub mod Fits
 pub mod LookUps

@@ -48,7 +48,7 @@ fn no_higher(corner: Point, p: Point) -> bool
 }
 
 /// How the edge from a to b counts for p. Most edges lie above or below the point and need no turn.
-pub fn crossing_of(a: Point, b: Point, p: Point) -> Crossing
+pub(crate) fn crossing_of(a: Point, b: Point, p: Point) -> Crossing
     ensures { λ r. ⌜ r ≡ crossingOf a b p ⌝ }
 {
     if no_higher(a, p) {
@@ -67,7 +67,7 @@ pub fn crossing_of(a: Point, b: Point, p: Point) -> Crossing
 }
 
 /// Whether the point is on the edge.
-pub fn is_on(crossing: Crossing) -> bool
+pub(crate) fn is_on(crossing: Crossing) -> bool
     ensures { λ r. ⌜ r ≡ isOn crossing ⌝ }
 {
     match crossing {
@@ -79,7 +79,7 @@ pub fn is_on(crossing: Crossing) -> bool
 }
 
 /// The winding number with one more edge. No plan has so many edges that it would leave 64 bits.
-pub fn wound(winding: i64, crossing: Crossing) -> i64
+pub(crate) fn wound(winding: i64, crossing: Crossing) -> i64
     requires { ⌜ natAbs winding + 1 < 2 ^ 63 ⌝ }
     ensures { λ r. ⌜ r ≡ winding +ℤ weightOf crossing ⌝ }
 {
@@ -92,7 +92,7 @@ pub fn wound(winding: i64, crossing: Crossing) -> i64
 }
 
 /// Whether a winding number is not 0.
-pub fn is_nonzero(winding: i64) -> bool
+pub(crate) fn is_nonzero(winding: i64) -> bool
     ensures { λ r. ⌜ r ≡ isNonzero winding ⌝ }
 {
     (winding < 0) | (0 < winding)

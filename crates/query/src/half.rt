@@ -117,7 +117,7 @@ fn ring_parity(coordinates: &[i64], first: usize, end: usize, p: Point, carried:
 }
 
 /// Where a doubled point lies: on any edge, or else inside exactly if an odd number of edges is crossed.
-pub fn half_reply(form: Form, coordinates: &[i64], rings: &[usize], p: Point) -> Reply
+pub(crate) fn half_reply(form: Form, coordinates: &[i64], rings: &[usize], p: Point) -> Reply
     ensures { λ r. ⌜ Shown form (length (now (coordinates .entry)) / 2) 0 (now (rings .entry)) (halfNear (partsFrom form (cornersOf (now (coordinates .entry))) 0 (now (rings .entry))) p) r ⌝ }
 {
     let limit = coordinates.len() / 2;

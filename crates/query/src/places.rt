@@ -6,7 +6,7 @@ ghost use Rattle.rules.specs.Replies.{byHole, stronger as strongerOf};
 ghost use Rattle.query.specs.Shapes.{isOutside, isInside, isBoundary, flippedBy};
 use rules::Location;
 
-pub fn is_outside(location: Location) -> bool
+pub(crate) fn is_outside(location: Location) -> bool
     ensures { λ r. ⌜ r ≡ isOutside location ⌝ }
 {
     match location {
@@ -16,7 +16,7 @@ pub fn is_outside(location: Location) -> bool
     }
 }
 
-pub fn is_inside(location: Location) -> bool
+pub(crate) fn is_inside(location: Location) -> bool
     ensures { λ r. ⌜ r ≡ isInside location ⌝ }
 {
     match location {
@@ -26,7 +26,7 @@ pub fn is_inside(location: Location) -> bool
     }
 }
 
-pub fn is_boundary(location: Location) -> bool
+pub(crate) fn is_boundary(location: Location) -> bool
     ensures { λ r. ⌜ r ≡ isBoundary location ⌝ }
 {
     match location {
@@ -37,7 +37,7 @@ pub fn is_boundary(location: Location) -> bool
 }
 
 /// What a hole decides for its polygon, given where the point lies in the hole.
-pub fn through_hole(location: Location) -> Location
+pub(crate) fn through_hole(location: Location) -> Location
     ensures { λ r. ⌜ r ≡ byHole location Inside ⌝ }
 {
     match location {
@@ -48,7 +48,7 @@ pub fn through_hole(location: Location) -> Location
 }
 
 /// Inside wins, then boundary, then outside.
-pub fn stronger(a: Location, b: Location) -> Location
+pub(crate) fn stronger(a: Location, b: Location) -> Location
     ensures { λ r. ⌜ r ≡ strongerOf a b ⌝ }
 {
     match a {
@@ -63,7 +63,7 @@ pub fn stronger(a: Location, b: Location) -> Location
 }
 
 /// A parity with one more ring: turned over if the point is inside it.
-pub fn flipped(odd: bool, location: Location) -> bool
+pub(crate) fn flipped(odd: bool, location: Location) -> bool
     ensures { λ r. ⌜ r ≡ flippedBy odd location ⌝ }
 {
     match location {
@@ -74,7 +74,7 @@ pub fn flipped(odd: bool, location: Location) -> bool
 }
 
 /// An odd number of times round is inside.
-pub fn odd_place(odd: bool) -> Location
+pub(crate) fn odd_place(odd: bool) -> Location
     ensures { λ r. ⌜ r ≡ cond odd Inside Outside ⌝ }
 {
     if odd {

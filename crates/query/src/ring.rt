@@ -32,7 +32,7 @@ fn closed(winding: i64, last: Crossing) -> Location
 }
 
 /// Where p lies in the ring of the corners from `first` to before `end`.
-pub fn ring_reply(coordinates: &[i64], first: usize, end: usize, p: Point) -> Location
+pub(crate) fn ring_reply(coordinates: &[i64], first: usize, end: usize, p: Point) -> Location
     requires { ⌜ (first ≤ end) × (2 * end ≤ length (now coordinates)) ⌝ }
     ensures { λ r. ⌜ r ≡ ringReply (part (cornersOf (now (coordinates .entry))) first end) p ⌝ }
 {

@@ -18,7 +18,7 @@ pub enum End {
 }
 
 /// Where part k ends, given where it starts: not before its start and not past the limit.
-pub fn end_of(form: Form, table: &[usize], k: usize, start: usize, limit: usize) -> End
+pub(crate) fn end_of(form: Form, table: &[usize], k: usize, start: usize, limit: usize) -> End
     requires { ⌜ (k < length (now table)) × (start ≤ limit) ⌝ }
     ensures { λ r. ⌜ EndSays form (now (table .entry)) k start limit r ⌝ }
 {
@@ -42,7 +42,7 @@ pub fn end_of(form: Form, table: &[usize], k: usize, start: usize, limit: usize)
 }
 
 /// Where the last of all parts ends.
-pub fn end_of_all(form: Form, table: &[usize], start: usize, limit: usize) -> End
+pub(crate) fn end_of_all(form: Form, table: &[usize], start: usize, limit: usize) -> End
     requires { ⌜ start ≤ limit ⌝ }
     ensures { λ r. ⌜ RunSays form (now (table .entry)) start limit r ⌝ }
 {

@@ -45,7 +45,7 @@ fn holes_reply(form: Form, coordinates: &[i64], rings: &[usize], start: usize, p
 }
 
 /// Where p lies in a tree: on any ring's boundary, or else inside exactly if an odd number of rings go round it.
-pub fn tree_reply(form: Form, coordinates: &[i64], rings: &[usize], p: Point) -> Reply
+pub(crate) fn tree_reply(form: Form, coordinates: &[i64], rings: &[usize], p: Point) -> Reply
     ensures { λ r. ⌜ Shown form (length (now (coordinates .entry)) / 2) 0 (now (rings .entry)) (treeReply (partsFrom form (cornersOf (now (coordinates .entry))) 0 (now (rings .entry))) p) r ⌝ }
 {
     let limit = coordinates.len() / 2;
@@ -87,7 +87,7 @@ fn polygon_reply(form: Form, coordinates: &[i64], rings: &[usize], start: usize,
 }
 
 /// Where p lies in a list of polygons: inside any of them wins, then boundary, then outside.
-pub fn list_reply(
+pub(crate) fn list_reply(
     form: Form,
     coordinates: &[i64],
     rings: &[usize],

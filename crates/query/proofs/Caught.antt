@@ -1,0 +1,103 @@
+-- Wrong engines that the contracts rule out, whatever their code is. An engine meets the contract of `locate` or `locate_doubled` if
+-- it answers every plan and point as that contract says. Assumes nothing.
+use mathlib.Core.Path.{_≡_, refl, sym, _∙_, ap, subst}
+use mathlib.Core.Bool.{Bool, true, false}
+use mathlib.Core.List.{List, [], _∷_}
+use Prim.Native.Nat.{ℕ}
+use lib.Dec.{T}
+use lib.IntN.{ℤ, pos}
+use Rattle.geom.specs.declared.Point.{Point}
+use Rattle.predicates.specs.Turn.{orientation, onSegment}
+use Rattle.rules.specs.declared.Kind.{Kind}
+use Rattle.rules.specs.declared.Kind.the-variants.{Polygons}
+use Rattle.rules.specs.declared.Location.{Location}
+use Rattle.rules.specs.declared.Location.the-variants.{Outside, Inside, OnBoundary}
+use Rattle.rules.specs.declared.Refusal.{Refusal}
+use Rattle.rules.specs.declared.Refusal.the-variants.{Uneven, Unsound}
+use Rattle.rules.specs.declared.Reply.{Reply}
+use Rattle.rules.specs.declared.Reply.the-variants.{At, Refused}
+use Rattle.rules.specs.declared.State.{State}
+use Rattle.rules.specs.Edges.{edgesFrom, edgesOf, allEdges, edgeWinding, winding, onEdge}
+use Rattle.rules.specs.Lists.{anyOf, countOf, sumOf, total, partsOf}
+use Rattle.rules.specs.Plans.{Plan, cornersOf, ringsOf, polygonsOf, tooMany, uneven, planVerdict, allInRange, planInRange, planReply, planHalfReply, answer}
+use Rattle.rules.specs.Replies.{ringReply, holesReply, polygonReply, listReply, doubledEdges, halfReply}
+use Rattle.rules.specs.Tables.{PlanSound}
+use Rattle.query.specs.Calls.{LookedUp}
+use Rattle.query.proofs.Steps.{at-refused}
+
+abbrev pub Engine : Type 0
+Engine = Kind → List ℤ → List ℕ → List ℕ → Point → Reply
+
+abbrev pub plan : Kind → List ℤ → List ℕ → List ℕ → Plan
+plan kind coordinates lengths counts = record { kind = kind; coordinates = coordinates; lengths = lengths; counts = counts }
+
+-- what `locate` and `locate_doubled` ensure
+abbrev pub Meets : Engine → Type 0
+Meets f = (kind : Kind) (coordinates : List ℤ) (lengths counts : List ℕ) (p : Point) → f kind coordinates lengths counts p ≡ answer (planVerdict (plan kind coordinates lengths counts)) (planReply (plan kind coordinates lengths counts) p)
+
+abbrev pub MeetsDoubled : Engine → Type 0
+MeetsDoubled f = (kind : Kind) (coordinates : List ℤ) (lengths counts : List ℕ) (p : Point) → f kind coordinates lengths counts p ≡ answer (planVerdict (plan kind coordinates lengths counts)) (planHalfReply (plan kind coordinates lengths counts) p)
+
+-- ---- a square, gone round twice, at its middle, beside it, and torn
+abbrev square : List ℤ
+square = pos 0 ∷ pos 0 ∷ pos 10 ∷ pos 0 ∷ pos 10 ∷ pos 10 ∷ pos 0 ∷ pos 10 ∷ pos 0 ∷ pos 0 ∷ pos 10 ∷ pos 0 ∷ pos 10 ∷ pos 10 ∷ pos 0 ∷ pos 10 ∷ []
+
+abbrev pub middle : Point
+middle = record { x = pos 5; y = pos 5 }
+
+abbrev beside : Point
+beside = record { x = pos 11; y = pos 5 }
+
+middle-inside : answer (planVerdict (plan Polygons square (8 ∷ []) (1 ∷ []))) (planReply (plan Polygons square (8 ∷ []) (1 ∷ [])) middle) ≡ At Inside
+unfolding orientation onSegment edgesFrom edgesOf edgeWinding winding onEdge anyOf sumOf total partsOf cornersOf ringsOf polygonsOf tooMany uneven planVerdict allInRange planInRange planReply ringReply holesReply polygonReply listReply
+middle-inside = refl
+
+beside-outside : answer (planVerdict (plan Polygons square (8 ∷ []) (1 ∷ []))) (planReply (plan Polygons square (8 ∷ []) (1 ∷ [])) beside) ≡ At Outside
+unfolding orientation onSegment edgesFrom edgesOf edgeWinding winding onEdge anyOf sumOf total partsOf cornersOf ringsOf polygonsOf tooMany uneven planVerdict allInRange planInRange planReply ringReply holesReply polygonReply listReply
+beside-outside = refl
+
+torn-refused : (location : Location) → answer (planVerdict (plan Polygons square (7 ∷ []) (1 ∷ []))) location ≡ Refused Uneven
+unfolding total tooMany uneven planVerdict
+torn-refused location = refl
+
+doubled-outside : answer (planVerdict (plan Polygons square (8 ∷ []) (1 ∷ []))) (planHalfReply (plan Polygons square (8 ∷ []) (1 ∷ [])) (record { x = pos 10; y = pos 10 })) ≡ At Outside
+unfolding orientation onSegment edgesFrom edgesOf allEdges edgeWinding onEdge anyOf countOf total partsOf cornersOf ringsOf tooMany uneven planVerdict allInRange planInRange planHalfReply doubledEdges halfReply
+doubled-outside = refl
+
+isInsideReply : Reply → Bool
+isInsideReply (At Outside) = false
+isInsideReply (At Inside) = true
+isInsideReply (At OnBoundary) = false
+isInsideReply (Refused refusal) = false
+
+apart : At Inside ≡ At Outside → ⊥
+unfolding isInsideReply
+apart e = subst T (ap isInsideReply e) tt
+
+-- ---- caught
+pub always-outside : (f : Engine) → Meets f → ((kind : Kind) (coordinates : List ℤ) (lengths counts : List ℕ) (p : Point) → f kind coordinates lengths counts p ≡ At Outside) → ⊥
+always-outside f meets wrong = apart (sym middle-inside ∙ sym (meets Polygons square (8 ∷ []) (1 ∷ []) middle) ∙ wrong Polygons square (8 ∷ []) (1 ∷ []) middle)
+
+pub one-reply-a-plan : (f : Engine) → Meets f → ((kind : Kind) (coordinates : List ℤ) (lengths counts : List ℕ) (p q : Point) → f kind coordinates lengths counts p ≡ f kind coordinates lengths counts q) → ⊥
+one-reply-a-plan f meets wrong =
+    apart (sym middle-inside ∙ sym (meets Polygons square (8 ∷ []) (1 ∷ []) middle) ∙ wrong Polygons square (8 ∷ []) (1 ∷ []) middle beside ∙ meets Polygons square (8 ∷ []) (1 ∷ []) beside ∙ beside-outside)
+
+pub refusal-throughout : (f : Engine) → Meets f → ((kind : Kind) (coordinates : List ℤ) (lengths counts : List ℕ) (p : Point) → (refusal : Refusal) × (f kind coordinates lengths counts p ≡ Refused refusal)) → ⊥
+refusal-throughout f meets wrong =
+    let w = wrong Polygons square (8 ∷ []) (1 ∷ []) middle in
+    at-refused Inside (w .0) (sym middle-inside ∙ sym (meets Polygons square (8 ∷ []) (1 ∷ []) middle) ∙ w .1)
+
+pub nothing-refused : (f : Engine) → Meets f → ((kind : Kind) (coordinates : List ℤ) (lengths counts : List ℕ) (p : Point) → (location : Location) × (f kind coordinates lengths counts p ≡ At location)) → ⊥
+nothing-refused f meets wrong =
+    let w = wrong Polygons square (7 ∷ []) (1 ∷ []) middle in
+    at-refused (w .0) Uneven (sym (w .1) ∙ meets Polygons square (7 ∷ []) (1 ∷ []) middle ∙ torn-refused _)
+
+-- one rule for both grids: P10 parts them
+pub one-rule-for-both : (f g : Engine) → Meets f → MeetsDoubled g → ((kind : Kind) (coordinates : List ℤ) (lengths counts : List ℕ) → f kind coordinates lengths counts middle ≡ g kind coordinates lengths counts (record { x = pos 10; y = pos 10 })) → ⊥
+one-rule-for-both f g meets doubled same =
+    apart (sym middle-inside ∙ sym (meets Polygons square (8 ∷ []) (1 ∷ []) middle) ∙ same Polygons square (8 ∷ []) (1 ∷ []) ∙ doubled Polygons square (8 ∷ []) (1 ∷ []) (record { x = pos 10; y = pos 10 }) ∙ doubled-outside)
+
+-- ---- sound tables never get 15, and nothing else is ever refused
+pub sound-never-refused : (state : State) (corners : List ℤ) (rings polygons : List ℕ) (ranged : Bool) (location : Location) (r : Reply) (refusal : Refusal)
+    → LookedUp state corners rings polygons ranged location r → PlanSound state corners rings polygons → state .«out_of_range» ≡ false → r ≡ Refused refusal → ⊥
+sound-never-refused state corners rings polygons ranged location r refusal looked sound in-range e = at-refused location refusal (sym (looked .exact sound in-range) ∙ e)
