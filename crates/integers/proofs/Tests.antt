@@ -33,6 +33,26 @@ pub not-false : (b : Bool) → not b ≡ false → b ≡ true
 not-false true e = refl
 not-false false e = absurd (subst T e tt)
 
+pub and-none : (b : Bool) → b && false ≡ false
+and-none true = refl
+and-none false = refl
+
+pub and-same : (b : Bool) → b && true ≡ b
+and-same true = refl
+and-same false = refl
+
+pub or-none : (b : Bool) → b || false ≡ b
+or-none true = refl
+or-none false = refl
+
+pub or-assoc : (a b c : Bool) → (a || b) || c ≡ a || (b || c)
+or-assoc true b c = refl
+or-assoc false b c = refl
+
+pub or-false : (a b : Bool) → a || b ≡ false → (a ≡ false) × (b ≡ false)
+or-false true b e = absurd (subst T e tt)
+or-false false b e = (refl, e)
+
 pub not-both : (b : Bool) → (b ≡ true → ⊥) → b ≡ false
 not-both true f = absurd (f refl)
 not-both false f = refl

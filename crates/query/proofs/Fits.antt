@@ -10,7 +10,7 @@ use borrow.Author.Tests.{eqb-true}
 use lib.Dec.{T, eqb}
 use lib.IntN.{ℤ}
 use lib.ListN.{length, take, drop}
-use Rattle.integers.proofs.Tests.{not-true, not-false, and-true}
+use Rattle.integers.proofs.Tests.{not-true, not-false, or-false}
 use Rattle.geom.specs.declared.Point.{Point}
 use Rattle.geom.specs.Range.{inRange, inDoubledRange}
 use Rattle.rules.specs.declared.Kind.{Kind}
@@ -24,7 +24,6 @@ use Rattle.rules.specs.Lists.{anyOf, countOf, partsOf, total, isOdd}
 use Rattle.rules.specs.Plans.{Plan, cornersOf, ringsOf, polygonsOf, isList, uneven, cornerCount, planVerdict, allInRange, planInRange, kindReply, planReply, planHalfReply}
 use Rattle.rules.specs.Replies.{crosses, doubled, doubledEdges, halfReply, listReply, treeReply}
 use Rattle.rules.specs.Tables.{endsFrom, lengthsFrom, polygonsIn, planOf, PlanSound}
-use Rattle.rules.proofs.Flags.{or-false}
 use Rattle.rules.proofs.Verdicts.{accepted-passes}
 use Rattle.query.specs.declared.rows.Form.{Form}
 use Rattle.query.specs.declared.rows.Form.the-variants.{Lengths, Ends}

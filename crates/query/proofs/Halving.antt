@@ -12,7 +12,7 @@ use lib.ListN.{length}
 use Rattle.integers.proofs.Bits.{abs-fits}
 use Rattle.integers.proofs.Polynomials.{ring₂, con, _:+_, _:*_}
 use Rattle.integers.proofs.Sizes.{abs-add}
-use Rattle.integers.proofs.Tests.{and-true}
+use Rattle.integers.proofs.Tests.{and-true, or-none}
 use Rattle.geom.specs.declared.Point.{Point}
 use Rattle.geom.specs.Range.{within, inRange}
 use Rattle.geom.proofs.Range.{near}
@@ -26,7 +26,7 @@ use Rattle.rules.specs.Edges.{Edge, edgesFrom, edgesOf, allEdges, edgeWinding, 
 use Rattle.rules.specs.Lists.{anyOf, countOf, isOdd, xor}
 use Rattle.rules.specs.Plans.{cornersOf, cornerAt}
 use Rattle.rules.specs.Replies.{isNonzero, crosses}
-use Rattle.rules.proofs.Flags.{xor-assoc}
+use Rattle.rules.proofs.Flags.{xor-assoc, xor-none}
 use Rattle.rules.proofs.FourRays.{odd-suc, odd-count, oddly, oddly-append, on-append}
 use Rattle.query.specs.declared.crossings.Crossing.{Crossing}
 use Rattle.query.specs.declared.crossings.Crossing.the-variants.{Nothing, Up, Down, On}
@@ -85,14 +85,6 @@ pub hit-half : (ring : List Point) (p : Point) (before : Bool) (start a b : Poin
 unfolding ringParity edgesFrom onEdge anyOf
 hit-half ring p before start a b rest odd g on =
     sym (ap (λ t. cond t Parity.the-variants.On (parityOf (xor before (oddTimes (edgesOf ring) p)))) (g .on ∙ ap (λ t. t || onEdge (edgesFrom start b rest) p) (sym (on-crossing a b p) ∙ on)))
-
-or-none : (b : Bool) → b || false ≡ b
-or-none true = refl
-or-none false = refl
-
-xor-none : (b : Bool) → xor b false ≡ b
-xor-none true = refl
-xor-none false = refl
 
 last-on : (ring : List Point) (p : Point) (before : Bool) (start a : Point) (odd : Bool) → Halving ring p before start a [] odd → onEdge (edgesOf ring) p ≡ isOn (crossingOf a start p)
 unfolding edgesFrom onEdge anyOf

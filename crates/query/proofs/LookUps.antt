@@ -20,17 +20,13 @@ use Rattle.rules.specs.declared.State.{State}
 use Rattle.rules.specs.Plans.{Plan, ringsOf, kindReply, planReply, planHalfReply, planInRange}
 use Rattle.rules.specs.Replies.{halfReply}
 use Rattle.rules.specs.Tables.{polygonsIn, PlanSound}
-use Rattle.rules.proofs.Flags.{or-false}
+use Rattle.integers.proofs.Tests.{and-none, or-false}
 use Rattle.query.specs.Calls.{LookedUp}
 use Rattle.query.specs.Shapes.{Placed}
 use Rattle.query.proofs.Fits.{located, half-located}
 
 clash : {b : Bool} → b ≡ true → b ≡ false → ⊥
 clash e f = subst T f (subst T (sym e) tt)
-
-and-none : (b : Bool) → b && false ≡ false
-and-none true = refl
-and-none false = refl
 
 -- a point out of range is outside whatever the plan is
 pub far : (plan : Plan) (p : Point) → inRange p ≡ false → planReply plan p ≡ Outside

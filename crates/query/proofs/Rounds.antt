@@ -4,6 +4,7 @@ use mathlib.Core.Bool.{Bool, true, false, cond, _||_}
 use mathlib.Core.List.{List, [], _∷_}
 use Prim.Native.Nat.{ℕ, _+_, _*_, _<_, _≤_}
 use lib.IntN.{ℤ, pos, _+ℤ_, +ℤ-idl, +ℤ-idr, +ℤ-assoc}
+use Rattle.integers.proofs.Tests.{or-none}
 use Rattle.geom.specs.declared.Point.{Point}
 use Rattle.predicates.specs.Turn.{onSegment}
 use Rattle.rules.specs.declared.Location.{Location}
@@ -50,10 +51,6 @@ unfolding edgesFrom onEdge anyOf
 hit ring p start a b rest w g on = boundary ring p (g .on ∙ ap (λ t. t || onEdge (edgesFrom start b rest) p) (sym (on-crossing a b p) ∙ on))
 
 -- the closing edge
-or-none : (b : Bool) → b || false ≡ b
-or-none true = refl
-or-none false = refl
-
 last-on : (ring : List Point) (p start a : Point) (w : ℤ) → Going ring p start a [] w → onEdge (edgesOf ring) p ≡ onSegment a start p
 unfolding edgesFrom onEdge anyOf
 last-on ring p start a w g = g .on ∙ or-none (onSegment a start p)

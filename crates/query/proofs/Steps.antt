@@ -13,6 +13,7 @@ use Rattle.rules.specs.declared.Reply.the-variants.{At, Refused}
 use Rattle.rules.specs.Edges.{edgesOf, winding, onEdge}
 use Rattle.rules.specs.Lists.{anyOf, countOf, isOdd, xor}
 use Rattle.rules.specs.Replies.{isNonzero, ringReply, byHole, holesReply, withinOuter, polygonReply, stronger, listReply, treeReply}
+use Rattle.rules.proofs.Flags.{xor-none}
 use Rattle.rules.proofs.FourRays.{odd-suc}
 use Rattle.query.specs.Shapes.{isOutside, isInside, isBoundary, flippedBy}
 
@@ -89,10 +90,6 @@ pub ring-on-boundary : (rings : List (List Point)) (p : Point) (odd : Bool) (rin
 unfolding treeReply anyOf
 ring-on-boundary rings p odd ring later on n =
     sym (ap (λ on. cond on OnBoundary (cond (isOdd (countOf (λ ring. isNonzero (winding ring p)) rings)) Inside Outside)) (n .on ∙ ap (λ on. on || anyOf (λ ring. onEdge (edgesOf ring) p) later) (sym (on-boundary ring p) ∙ on)))
-
-xor-none : (odd : Bool) → xor odd false ≡ odd
-xor-none true = refl
-xor-none false = refl
 
 pub all-nested : (rings : List (List Point)) (p : Point) (odd : Bool) → Nested rings p odd [] → cond odd Inside Outside ≡ treeReply rings p
 unfolding treeReply anyOf countOf

@@ -12,10 +12,6 @@ pub and-right : (a b : Bool) → T (a && b) → T b
 and-right true b t = t
 and-right false b t = absurd t
 
-pub or-false : (a b : Bool) → a || b ≡ false → (a ≡ false) × (b ≡ false)
-or-false true b e = absurd (subst T e tt)
-or-false false b e = (refl, e)
-
 -- one of three: where the first holds and the second does not, the third does
 pub remaining : (a b c : Bool) → T (not a || (b || c)) → T a → b ≡ false → T c
 remaining true true c t h g = absurd (subst T g tt)
@@ -45,6 +41,10 @@ xor-comm true true = refl
 xor-comm true false = refl
 xor-comm false true = refl
 xor-comm false false = refl
+
+pub xor-none : (b : Bool) → xor b false ≡ b
+xor-none true = refl
+xor-none false = refl
 
 xor-self : (a b : Bool) → xor (xor a b) b ≡ a
 xor-self true true = refl

@@ -10,6 +10,7 @@ use borrow.Author.Tests.{eqb-true, eqb-false, eq-eqb, ne-eqb}
 use lib.Dec.{eqb}
 use lib.IntN.{ℤ, pos, _+ℤ_, +ℤ-idl, +ℤ-assoc}
 use Rattle.integers.proofs.Order.{zarith, add-parts}
+use Rattle.integers.proofs.Tests.{or-assoc, or-false}
 use Rattle.geom.specs.declared.Point.{Point}
 use Rattle.predicates.specs.Turn.{onSegment}
 use Rattle.rules.specs.declared.Ray.{Ray}
@@ -17,7 +18,7 @@ use Rattle.rules.specs.Edges.{Edge, edgesFrom, edgesOf, allEdges, edgeWi
 use Rattle.rules.specs.Lists.{anyOf, countOf, sumOf, isOdd, xor}
 use Rattle.rules.specs.Rays.{windingOn}
 use Rattle.rules.specs.Replies.{isNonzero}
-use Rattle.rules.proofs.Flags.{or-false, xor-assoc, xor-comm, xor-step, xor-cancel}
+use Rattle.rules.proofs.Flags.{xor-assoc, xor-comm, xor-step, xor-cancel}
 use Rattle.rules.proofs.RayEdges.{potentialAt, edge-winding, edge-parity}
 
 -- ---- the point is on none of the edges
@@ -113,10 +114,6 @@ pub oddly-append : (g : Edge → Bool) (s t : List Edge) → oddly g (s ++ t) �
 unfolding oddly
 oddly-append g [] t = refl
 oddly-append g (e ∷ s) t = ap (xor (g e)) (oddly-append g s t) ∙ sym (xor-assoc (g e) (oddly g s) (oddly g t))
-
-or-assoc : (a b c : Bool) → (a || b) || c ≡ a || (b || c)
-or-assoc true b c = refl
-or-assoc false b c = refl
 
 pub on-append : (s t : List Edge) (p : Point) → onEdge (s ++ t) p ≡ onEdge s p || onEdge t p
 unfolding onEdge anyOf

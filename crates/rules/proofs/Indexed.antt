@@ -8,6 +8,7 @@ use native.Mathlib.Omega.{arith}
 use borrow.Author.Tests.{lt-ltb}
 use lib.Dec.{ltb, leb·suc-suc}
 use lib.IntN.{ℤ, pos, _+ℤ_, +ℤ-idl, +ℤ-idr, +ℤ-assoc}
+use Rattle.integers.proofs.Tests.{or-assoc, or-none}
 use Rattle.geom.specs.declared.Point.{Point}
 use Rattle.predicates.specs.Turn.{onSegment}
 use Rattle.rules.specs.declared.Ray.{Ray}
@@ -48,14 +49,6 @@ sum-first : (weight : ℕ → ℤ) (n : ℕ) → sumTo weight (suc n) ≡ weight
 unfolding sumTo
 sum-first weight zero = +ℤ-idl (weight 0) ∙ sym (+ℤ-idr (weight 0))
 sum-first weight (suc n) = ap (λ z. z +ℤ weight (suc n)) (sum-first weight n) ∙ +ℤ-assoc (weight 0) (sumTo (λ i. weight (suc i)) n) (weight (suc n))
-
-or-none : (b : Bool) → b || false ≡ b
-or-none true = refl
-or-none false = refl
-
-or-assoc : (a b c : Bool) → (a || b) || c ≡ a || (b || c)
-or-assoc true b c = refl
-or-assoc false b c = refl
 
 any-first : (test : ℕ → Bool) (n : ℕ) → anyTo test (suc n) ≡ test 0 || anyTo (λ i. test (suc i)) n
 unfolding anyTo
