@@ -7,7 +7,7 @@ use native.Mathlib.Omega.{arith}
 use lib.ListN.{length, take, drop}
 use lib.Seq.{drop-drop}
 use Rattle.query.specs.declared.rows.Form.{Form}
-use Rattle.query.specs.Parts.{part}
+use Rattle.rings.specs.Parts.{part}
 use Rattle.query.specs.Rows.{endBy, Within, partsFrom}
 use Rattle.query.proofs.Cuts.{parts-take, parts-drop, within-take, within-drop}
 

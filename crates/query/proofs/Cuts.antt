@@ -12,7 +12,7 @@ use Rattle.rules.specs.Tables.{endsFrom, lengthsFrom}
 use Rattle.query.specs.declared.rows.Form.{Form}
 use Rattle.query.specs.declared.rows.Form.the-variants.{Lengths, Ends}
 use Rattle.query.specs.declared.rows.End.the-variants.{Misfit}
-use Rattle.query.specs.Parts.{part}
+use Rattle.rings.specs.Parts.{part}
 use Rattle.query.specs.Rows.{endAt, lengthsBy, endBy, Within, partsFrom, EndSays}
 
 -- ---- the entries from place k on

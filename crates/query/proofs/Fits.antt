@@ -28,7 +28,8 @@ use Rattle.rules.proofs.Verdicts.{accepted-passes}
 use Rattle.query.specs.declared.rows.Form.{Form}
 use Rattle.query.specs.declared.rows.Form.the-variants.{Lengths, Ends}
 use Rattle.query.specs.Calls.{planBy, Fitting}
-use Rattle.query.specs.Half.{nearDoubled, halfNear}
+use Rattle.rings.specs.Half.{nearDoubled}
+use Rattle.query.specs.Shapes.{halfNear}
 use Rattle.query.specs.Rows.{lengthsBy, Within, partsFrom}
 
 -- ---- sums that come out let every entry fit

@@ -1,11 +1,8 @@
-pub mod EdgeCounts
-pub mod Rounds
-pub mod Parts
 pub mod Cuts
 pub mod Alignment
 pub mod Caught
-pub mod Halving
 pub mod Fits
+pub mod HalfSteps
 pub mod LookUps
 pub mod Progress
 pub mod Steps

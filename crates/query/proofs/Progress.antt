@@ -7,7 +7,7 @@ use native.Mathlib.Omega.{arith}
 use lib.ListN.{length, getD, drop}
 use Rattle.query.specs.declared.rows.Form.{Form}
 use Rattle.query.specs.declared.rows.End.the-variants.{At, Misfit}
-use Rattle.query.specs.Parts.{part}
+use Rattle.rings.specs.Parts.{part}
 use Rattle.query.specs.Rows.{endAt, Within, partsFrom, EndSays}
 use Rattle.query.proofs.Cuts.{none-left, within-step, misfit, parts-step, parts-none}
 

@@ -15,7 +15,7 @@ use Rattle.rules.specs.Lists.{anyOf, countOf, isOdd, xor}
 use Rattle.rules.specs.Replies.{isNonzero, ringReply, byHole, holesReply, withinOuter, polygonReply, stronger, listReply, treeReply}
 use Rattle.rules.proofs.Flags.{xor-none}
 use Rattle.rules.proofs.FourRays.{odd-suc}
-use Rattle.query.specs.Shapes.{isOutside, isInside, isBoundary, flippedBy}
+use Rattle.rings.specs.Places.{isOutside, isInside, isBoundary, flippedBy}
 
 -- ---- holes
 -- no hole so far decided

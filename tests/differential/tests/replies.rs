@@ -19,5 +19,5 @@ fn named_cases_get_their_stated_replies() {
 #[test]
 fn stored_cases_are_those_of_the_seed() {
     let (text, _) = stored::text(SEED);
-    assert!(text == include_str!("../stored/plans.txt"));
+    assert!(text == include_str!("../../../crates/vectors/stdin"));
 }

@@ -10,12 +10,12 @@ use Rattle.rules.specs.declared.Location.the-variants.{Outside, Inside, OnBound
 use Rattle.rules.specs.declared.Reply.the-variants.{At}
 use Rattle.rules.specs.Plans.{cornersOf}
 use Rattle.query.specs.declared.rows.End.the-variants as End
-use Rattle.query.specs.Parts.{part}
+use Rattle.rings.specs.Parts.{part}
 use Rattle.query.specs.Rows.{partsFrom, EndSays}
 use Rattle.query.proofs.Progress.{Reached, begun, refused, over, ahead, onward}
 use Rattle.rules.specs.Edges.{edgesOf}
-use Rattle.query.specs.Half.{nearDoubled, parityOn, parityOdd, ringParity}
-use Rattle.query.proofs.Halving.{Crossed, none-crossed, ring-crossed, ring-hit, all-crossed}
+use Rattle.rings.specs.Half.{nearDoubled, parityOn, parityOdd, ringParity}
+use Rattle.query.proofs.HalfSteps.{Crossed, none-crossed, ring-crossed, ring-hit, all-crossed}
 use Rattle.query.proofs.half.half_reply.Statement.{statement}
 use Rattle.query.proofs.half.half_reply.Tie as tie
 

@@ -11,11 +11,11 @@ use Rattle.rules.specs.declared.Location.the-variants.{Outside, Inside, OnBound
 use Rattle.rules.specs.declared.Reply.the-variants.{At}
 use Rattle.rules.specs.Plans.{cornersOf}
 use Rattle.query.specs.declared.rows.End.the-variants as End
-use Rattle.query.specs.Parts.{part}
+use Rattle.rings.specs.Parts.{part}
 use Rattle.query.specs.Rows.{partsFrom, EndSays}
 use Rattle.query.proofs.Progress.{Reached, begun, refused, over, ahead, onward}
 use Rattle.rules.specs.Replies.{byHole}
-use Rattle.query.specs.Shapes.{isOutside}
+use Rattle.rings.specs.Places.{isOutside}
 use Rattle.query.proofs.Steps.{Undecided, hole-passed, hole-decides, no-hole}
 use Rattle.query.proofs.shapes.holes_reply.Statement.{statement}
 use Rattle.query.proofs.shapes.holes_reply.Tie as tie

@@ -18,9 +18,10 @@ use Rattle.rules.specs.Plans.{cornersOf}
 use Rattle.rules.specs.Replies.{polygonReply, stronger, listReply}
 use Rattle.query.specs.declared.rows.Form.{Form}
 use Rattle.query.specs.declared.rows.End.the-variants as End
-use Rattle.query.specs.Parts.{part}
+use Rattle.rings.specs.Parts.{part}
 use Rattle.query.specs.Rows.{Within, partsFrom, EndSays, RunSays}
-use Rattle.query.specs.Shapes.{Shown, isInside}
+use Rattle.rings.specs.Places.{isInside}
+use Rattle.query.specs.Shapes.{Shown}
 use Rattle.query.proofs.Alignment.{Aligned, aligned, slice-fits, slice-is, realigned}
 use Rattle.query.proofs.Progress.{Reached, begun, refused, over, ahead, onward}
 use Rattle.query.proofs.Steps.{Weighed, polygon-weighed, all-weighed, inside-wins, same-place, at-refused}

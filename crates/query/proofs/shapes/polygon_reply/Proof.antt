@@ -14,9 +14,10 @@ use Rattle.rules.specs.declared.Reply.the-variants.{At}
 use Rattle.rules.specs.Plans.{cornersOf}
 use Rattle.rules.specs.Replies.{ringReply, withinOuter, holesReply, polygonReply}
 use Rattle.query.specs.declared.rows.End.the-variants as End
-use Rattle.query.specs.Parts.{part}
+use Rattle.rings.specs.Parts.{part}
 use Rattle.query.specs.Rows.{Within, partsFrom, EndSays}
-use Rattle.query.specs.Shapes.{isInside, Shown}
+use Rattle.rings.specs.Places.{isInside}
+use Rattle.query.specs.Shapes.{Shown}
 use Rattle.query.proofs.Cuts.{to-the-end, none-left, parts-none}
 use Rattle.query.proofs.Progress.{Reached, begun, refused, ahead, onward}
 use Rattle.query.proofs.Steps.{none-polygon, outer-first, outer-decides, outer-inside}

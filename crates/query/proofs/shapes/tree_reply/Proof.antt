@@ -10,10 +10,10 @@ use Rattle.rules.specs.declared.Location.the-variants.{Outside, Inside, OnBound
 use Rattle.rules.specs.declared.Reply.the-variants.{At}
 use Rattle.rules.specs.Plans.{cornersOf}
 use Rattle.query.specs.declared.rows.End.the-variants as End
-use Rattle.query.specs.Parts.{part}
+use Rattle.rings.specs.Parts.{part}
 use Rattle.query.specs.Rows.{partsFrom, EndSays}
 use Rattle.query.proofs.Progress.{Reached, begun, refused, over, ahead, onward}
-use Rattle.query.specs.Shapes.{isBoundary, flippedBy}
+use Rattle.rings.specs.Places.{isBoundary, flippedBy}
 use Rattle.query.proofs.Steps.{Nested, none-nested, ring-nested, ring-on-boundary, all-nested}
 use Rattle.query.proofs.shapes.tree_reply.Statement.{statement}
 use Rattle.query.proofs.shapes.tree_reply.Tie as tie

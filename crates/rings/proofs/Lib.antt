@@ -1,0 +1,4 @@
+pub mod EdgeCounts
+pub mod Halving
+pub mod Parts
+pub mod Rounds

@@ -1,0 +1,4 @@
+pub mod Crossings
+pub mod Half
+pub mod Parts
+pub mod Places
