@@ -7,6 +7,7 @@ use Prim.Native.Nat.{ℕ}
 use lib.Dec.{T}
 use lib.IntN.{ℤ, pos}
 use Rattle.geom.specs.declared.Point.{Point}
+use Rattle.geom.specs.Range.{inRange}
 use Rattle.predicates.specs.Turn.{orientation, onSegment}
 use Rattle.rules.specs.declared.Kind.{Kind}
 use Rattle.rules.specs.declared.Kind.the-variants.{Polygons}
@@ -21,7 +22,9 @@ use Rattle.rules.specs.Edges.{edgesFrom, edgesOf, allEdges, edgeWinding, windin
 use Rattle.rules.specs.Lists.{anyOf, countOf, sumOf, total, partsOf}
 use Rattle.rules.specs.Plans.{Plan, cornersOf, ringsOf, polygonsOf, tooMany, uneven, planVerdict, allInRange, planInRange, planReply, planHalfReply, answer}
 use Rattle.rules.specs.Replies.{ringReply, holesReply, polygonReply, listReply, doubledEdges, halfReply}
-use Rattle.rules.specs.Tables.{PlanSound}
+use Rattle.rules.specs.declared.Verdict.the-variants.{Accepted}
+use Rattle.rules.specs.Tables.{endsFrom, planOf, PlanSound}
+use Rattle.rules.proofs.Tables.{listState, list-held, list-sound}
 use Rattle.query.specs.Calls.{LookedUp}
 use Rattle.query.proofs.Steps.{at-refused}
 
@@ -39,7 +42,7 @@ abbrev pub MeetsDoubled : Engine → Type 0
 MeetsDoubled f = (kind : Kind) (coordinates : List ℤ) (lengths counts : List ℕ) (p : Point) → f kind coordinates lengths counts p ≡ answer (planVerdict (plan kind coordinates lengths counts)) (planHalfReply (plan kind coordinates lengths counts) p)
 
 -- ---- a square, gone round twice, at its middle, beside it, and torn
-abbrev square : List ℤ
+abbrev pub square : List ℤ
 square = pos 0 ∷ pos 0 ∷ pos 10 ∷ pos 0 ∷ pos 10 ∷ pos 10 ∷ pos 0 ∷ pos 10 ∷ pos 0 ∷ pos 0 ∷ pos 10 ∷ pos 0 ∷ pos 10 ∷ pos 10 ∷ pos 0 ∷ pos 10 ∷ []
 
 abbrev pub middle : Point
@@ -96,6 +99,30 @@ nothing-refused f meets wrong =
 pub one-rule-for-both : (f g : Engine) → Meets f → MeetsDoubled g → ((kind : Kind) (coordinates : List ℤ) (lengths counts : List ℕ) → f kind coordinates lengths counts middle ≡ g kind coordinates lengths counts (record { x = pos 10; y = pos 10 })) → ⊥
 one-rule-for-both f g meets doubled same =
     apart (sym middle-inside ∙ sym (meets Polygons square (8 ∷ []) (1 ∷ []) middle) ∙ same Polygons square (8 ∷ []) (1 ∷ []) ∙ doubled Polygons square (8 ∷ []) (1 ∷ []) (record { x = pos 10; y = pos 10 }) ∙ doubled-outside)
+
+-- ---- the calls over prepared tables: the square's tables are sound, and the answer at its middle is inside, not 15 and not outside
+abbrev pub squarePlan : Plan
+squarePlan = plan Polygons square (8 ∷ []) (1 ∷ [])
+
+accepted : planVerdict squarePlan ≡ Accepted
+unfolding anyOf total tooMany uneven planVerdict
+accepted = refl
+
+near : planInRange squarePlan ≡ true
+unfolding anyOf cornersOf allInRange planInRange
+near = refl
+
+inside : planReply squarePlan middle ≡ Inside
+unfolding orientation onSegment edgesFrom edgesOf edgeWinding winding onEdge anyOf sumOf partsOf cornersOf ringsOf polygonsOf allInRange planInRange planReply ringReply holesReply polygonReply listReply
+inside = refl
+
+pub tables-answer : (r : Reply)
+    → LookedUp (listState squarePlan) square (endsFrom 0 (8 ∷ [])) (endsFrom 0 (1 ∷ [])) (inRange middle) (planReply (planOf (listState squarePlan) square (endsFrom 0 (8 ∷ [])) (endsFrom 0 (1 ∷ []))) middle) r
+    → r ≡ At Inside
+tables-answer r looked =
+    looked .exact (list-sound square (8 ∷ []) (1 ∷ []) accepted near) refl
+    ∙ ap (λ held. At (planReply held middle)) (list-held square (8 ∷ []) (1 ∷ []) accepted)
+    ∙ ap At inside
 
 -- ---- sound tables never get 15, and nothing else is ever refused
 pub sound-never-refused : (state : State) (corners : List ℤ) (rings polygons : List ℕ) (ranged : Bool) (location : Location) (r : Reply) (refusal : Refusal)

@@ -2,7 +2,7 @@
 -- the edge numbers 0 to n − 1 are those over the ring's edges, and so is the four-ray theorem. Assumes nothing.
 use mathlib.Core.Path.{_≡_, refl, sym, _∙_, ap, ap₂}
 use mathlib.Core.Bool.{Bool, true, false, cond, _||_}
-use mathlib.Core.List.{List, [], _∷_}
+use mathlib.Core.List.{List, [], _∷_, _++_, map}
 use Prim.Native.Nat.{ℕ, zero, suc, _+_, _<_, _≤_}
 use native.Mathlib.Omega.{arith}
 use borrow.Author.Tests.{lt-ltb}
@@ -12,7 +12,7 @@ use Rattle.integers.proofs.Tests.{or-assoc, or-none}
 use Rattle.geom.specs.declared.Point.{Point}
 use Rattle.predicates.specs.Turn.{onSegment}
 use Rattle.rules.specs.declared.Ray.{Ray}
-use Rattle.rules.specs.Edges.{Edge, edgesFrom, edgesOf, edgeWinding, winding, onEdge}
+use Rattle.rules.specs.Edges.{Edge, edgesFrom, edgesOf, allEdges, edgeWinding, winding, onEdge}
 use Rattle.rules.specs.Lists.{anyOf, countOf, sumOf, isOdd}
 use Rattle.rules.specs.Rays.{windingOn}
 use Rattle.rules.specs.Replies.{isNonzero}
@@ -110,6 +110,31 @@ pub edges-by-number : (corner : ℕ → Point) (n : ℕ) → edgesOf (tabulate c
 unfolding edgesOf tabulate
 edges-by-number corner zero = refl
 edges-by-number corner (suc k) = edges-from (corner 0) corner k ∙ tabulate-same (closing (corner 0) corner (suc k)) (edgeAt corner (suc k)) (suc k) (λ i h. closes corner (suc k) i)
+
+-- ---- item 1 for a whole plan: edge i starts at corner i
+starts-from : (first corner : Point) (rest : List Point) → map (λ e. e .0) (edgesFrom first corner rest) ≡ corner ∷ rest
+unfolding edgesFrom
+starts-from first corner [] = refl
+starts-from first corner (next ∷ rest) = ap (λ l. corner ∷ l) (starts-from first next rest)
+
+starts-of : (ring : List Point) → map (λ e. e .0) (edgesOf ring) ≡ ring
+unfolding edgesOf
+starts-of [] = refl
+starts-of (first ∷ rest) = starts-from first first rest
+
+starts-append : (s t : List Edge) → map (λ e. e .0) (s ++ t) ≡ map (λ e. e .0) s ++ map (λ e. e .0) t
+starts-append [] t = refl
+starts-append (e ∷ s) t = ap (λ l. e .0 ∷ l) (starts-append s t)
+
+-- all corners of all rings, in plan order
+unfoldable pub allCorners : List (List Point) → List Point
+allCorners [] = []
+allCorners (ring ∷ rings) = ring ++ allCorners rings
+
+pub edge-starts : (rings : List (List Point)) → map (λ e. e .0) (allEdges rings) ≡ allCorners rings
+unfolding allEdges allCorners
+edge-starts [] = refl
+edge-starts (ring ∷ rings) = starts-append (edgesOf ring) (allEdges rings) ∙ ap₂ _++_ (starts-of ring) (edge-starts rings)
 
 -- ---- the four-ray theorem by edge number
 module _ (ray : Ray) (corner : ℕ → Point) (n : ℕ) (p : Point) (off : anyTo (λ i. onSegment (edgeAt corner n i .0) (edgeAt corner n i .1) p) n ≡ false) where

@@ -7,5 +7,6 @@ pub mod FourRays
 pub mod Indexed
 pub mod Nodes
 pub mod RayChoice
+pub mod Tables
 pub mod Verdicts
 mod Worked

@@ -9,6 +9,9 @@ use Rattle.rules.specs.declared.Refusal.{Refusal}
 use Rattle.rules.specs.declared.Refusal.the-variants.{TextTooLong, BadLine, Uneven, TooMany, NoSuchCorner, PlaceOutOfRange, TableTooShort, PlanOutOfRange, UndoFull, NothingToUndo, Unsound}
 use Rattle.rules.specs.declared.Reply.{Reply}
 use Rattle.rules.specs.declared.Reply.the-variants.{At, Refused}
+use Rattle.rules.specs.declared.Verdict.{Verdict}
+use Rattle.rules.specs.declared.Verdict.the-variants.{Accepted}
+use Rattle.rules.specs.declared.Verdict as Verdict
 
 -- item 11
 abbrev pub locationNumber : Location → ℕ
@@ -55,3 +58,8 @@ refusalDetail Unsound = 0
 abbrev pub replyNumber : Reply → ℤ
 replyNumber (At location) = pos (locationNumber location)
 replyNumber (Refused refusal) = negℤ (pos (refusalNumber refusal))
+
+-- 0 where nothing is refused, or the refusal
+abbrev pub verdictNumber : Verdict → ℕ
+verdictNumber Accepted = 0
+verdictNumber (Verdict.the-variants.Refused refusal) = refusalNumber refusal

@@ -13,7 +13,7 @@ use Rattle.rules.specs.Tables.{planOf, polygonsIn}
 use Rattle.query.specs.declared.rows.Form.the-variants.{Ends}
 use Rattle.query.specs.Calls.{PlanShown}
 use Rattle.query.proofs.Fits.{sound-fits, located}
-use Rattle.query.proofs.LookUps.{far, marked, beyond, unsound, done, never-short, Long, long}
+use Rattle.query.proofs.LookUps.{far, marked, beyond, unsound, done, short-is, never-short, Long, long}
 use Rattle.query.proofs.plan.locate_by_rings.Statement.{statement}
 use Rattle.query.proofs.plan.locate_by_rings.Tie as tie
 
@@ -27,7 +27,7 @@ in-range-requires : tie.Need-in-range-requires
 in-range-requires c κs = search needs
 
 returns-2 : tie.Need-returns-2
-returns-2 c = let a = c .before .before .before .before .before .before .args in beyond (a .state) (a .corners .now) (a .rings .now) (a .polygons .now) (inRange (a .p)) (planReply (planOf (a .state) (a .corners .now) (a .rings .now) (a .polygons .now)) (a .p)) (far (planOf (a .state) (a .corners .now) (a .rings .now) (a .polygons .now)) (a .p) (sym (c .before .in-range .ensures) ∙ not-true _ (c .if2 .taken)))
+returns-2 c = let a = c .before .before .before .before .before .before .args in beyond (a .state) (a .corners .now) (a .rings .now) (a .polygons .now) (inRange (a .p)) (planReply (planOf (a .state) (a .corners .now) (a .rings .now) (a .polygons .now)) (a .p)) (sym (c .before .in-range .ensures) ∙ not-true _ (c .if2 .taken)) (far (planOf (a .state) (a .corners .now) (a .rings .now) (a .polygons .now)) (a .p) (sym (c .before .in-range .ensures) ∙ not-true _ (c .if2 .taken)))
 
 ranged : (c : tie.Else2) → inRange (c .before .before .before .before .before .before .args .p) ≡ true
 ranged c = sym (c .before .in-range .ensures) ∙ not-false _ (c .if2 .left)
@@ -61,7 +61,7 @@ returns-4 c =
     let a = c .before .before .before .before .before .before .before .before .before .before .before .args in
     let shown : PlanShown Ends (a .state .kind) (take (2 * a .state .corners) (a .corners .now)) (take (a .state .rings) (a .rings .now)) (take (polygonsIn (a .state .kind) (a .state .polygons)) (a .polygons .now)) (a .p) (c .kind-reply .result)
     = subst (λ q. PlanShown Ends (a .state .kind) (take (2 * a .state .corners) (a .corners .now)) (take (a .state .rings) (a .rings .now)) (take q (a .polygons .now)) (a .p) (c .kind-reply .result)) (c .before .before .before .before .before .before .before .before .polygon-count .ensures) (c .kind-reply .ensures) in
-    done (a .state) (a .corners .now) (a .rings .now) (a .polygons .now) (inRange (a .p)) (planReply (planOf (a .state) (a .corners .now) (a .rings .now) (a .polygons .now)) (a .p)) (c .before .before .before .before .before .before .before .if1 .left) (ranged (c .before .before .before .before .before)) (c .kind-reply .result) (shown .placed)
+    done (a .state) (a .corners .now) (a .rings .now) (a .polygons .now) (inRange (a .p)) (planReply (planOf (a .state) (a .corners .now) (a .rings .now) (a .polygons .now)) (a .p)) (c .before .before .before .before .before .before .before .if1 .left) (ranged (c .before .before .before .before .before)) (sym (short-is (a .state) (a .corners .now) (a .rings .now) (a .polygons .now) (c .before .before .before .before .before .before .before .before .polygon-count .result) (c .before .before .before .before .before .before .before .before .polygon-count .ensures)) ∙ c .before .before .before .before .if3 .left) (c .kind-reply .result) (shown .placed)
     (λ s. shown .exact (sound-fits (a .state) (a .corners .now) (a .rings .now) (a .polygons .now) s) ∙ ap At (sym (located (planOf (a .state) (a .corners .now) (a .rings .now) (a .polygons .now)) (a .p) true true (s .near) (ranged (c .before .before .before .before .before)))))
 
 pub locate-by-rings-spec : {M : Type 1} → statement M

@@ -13,7 +13,7 @@ use Rattle.rules.specs.Tables.{planOf, polygonsIn}
 use Rattle.query.specs.declared.rows.Form.the-variants.{Ends}
 use Rattle.query.specs.Calls.{PlanShown}
 use Rattle.query.proofs.Fits.{sound-fits, half-located, half-is}
-use Rattle.query.proofs.LookUps.{half-far, marked, beyond, unsound, done, never-short, Long, long}
+use Rattle.query.proofs.LookUps.{half-far, marked, beyond, unsound, done, short-is, never-short, Long, long}
 use Rattle.query.proofs.plan.locate_doubled_by_rings.Statement.{statement}
 use Rattle.query.proofs.plan.locate_doubled_by_rings.Tie as tie
 
@@ -27,7 +27,7 @@ in-doubled-range-requires : tie.Need-in-doubled-range-requires
 in-doubled-range-requires c κs = search needs
 
 returns-2 : tie.Need-returns-2
-returns-2 c = let a = c .before .before .before .before .before .before .args in beyond (a .state) (a .corners .now) (a .rings .now) (a .polygons .now) (inDoubledRange (a .p)) (planHalfReply (planOf (a .state) (a .corners .now) (a .rings .now) (a .polygons .now)) (a .p)) (half-far (planOf (a .state) (a .corners .now) (a .rings .now) (a .polygons .now)) (a .p) (sym (c .before .in-doubled-range .ensures) ∙ not-true _ (c .if2 .taken)))
+returns-2 c = let a = c .before .before .before .before .before .before .args in beyond (a .state) (a .corners .now) (a .rings .now) (a .polygons .now) (inDoubledRange (a .p)) (planHalfReply (planOf (a .state) (a .corners .now) (a .rings .now) (a .polygons .now)) (a .p)) (sym (c .before .in-doubled-range .ensures) ∙ not-true _ (c .if2 .taken)) (half-far (planOf (a .state) (a .corners .now) (a .rings .now) (a .polygons .now)) (a .p) (sym (c .before .in-doubled-range .ensures) ∙ not-true _ (c .if2 .taken)))
 
 ranged : (c : tie.Else2) → inDoubledRange (c .before .before .before .before .before .before .args .p) ≡ true
 ranged c = sym (c .before .in-doubled-range .ensures) ∙ not-false _ (c .if2 .left)
@@ -56,7 +56,7 @@ returns-4 : tie.Need-returns-4
 unfolding planOf
 returns-4 c =
     let a = c .before .before .before .before .before .before .before .before .before .before .args in
-    done (a .state) (a .corners .now) (a .rings .now) (a .polygons .now) (inDoubledRange (a .p)) (planHalfReply (planOf (a .state) (a .corners .now) (a .rings .now) (a .polygons .now)) (a .p)) (c .before .before .before .before .before .before .if1 .left) (ranged (c .before .before .before .before)) (c .half-reply .result) (c .half-reply .ensures .placed)
+    done (a .state) (a .corners .now) (a .rings .now) (a .polygons .now) (inDoubledRange (a .p)) (planHalfReply (planOf (a .state) (a .corners .now) (a .rings .now) (a .polygons .now)) (a .p)) (c .before .before .before .before .before .before .if1 .left) (ranged (c .before .before .before .before)) (sym (short-is (a .state) (a .corners .now) (a .rings .now) (a .polygons .now) (c .before .before .before .before .before .before .before .polygon-count .result) (c .before .before .before .before .before .before .before .polygon-count .ensures)) ∙ c .before .before .before .if3 .left) (c .half-reply .result) (c .half-reply .ensures .placed)
     (λ s. c .half-reply .ensures .exact (sound-fits (a .state) (a .corners .now) (a .rings .now) (a .polygons .now) s .by-ring) ∙ ap At (half-is Ends (a .state .kind) (take (2 * a .state .corners) (a .corners .now)) (take (a .state .rings) (a .rings .now)) (take (polygonsIn (a .state .kind) (a .state .polygons)) (a .polygons .now)) (a .p) (s .near) ∙ sym (half-located (planOf (a .state) (a .corners .now) (a .rings .now) (a .polygons .now)) (a .p) true true (s .near) (ranged (c .before .before .before .before)))))
 
 pub locate-doubled-by-rings-spec : {M : Type 1} → statement M
