@@ -1,13 +1,12 @@
 -- Closed boxes are what their names say: two that meet share a point and the other way round, the union is the smallest box that
 -- holds both, and the empty box holds nothing, adds nothing and meets no box in range. Assumes nothing.
-use mathlib.Core.Path.{_≡_, refl, sym, _∙_, ap}
-use mathlib.Core.Bool.{Bool, true, false, _&&_}
+use mathlib.Core.Path.{_≡_, ap}
+use mathlib.Core.Bool.{true, false, _&&_}
 use Prim.Native.Nat.{_^_}
 use lib.IntN.{ℤ, pos, negℤ}
 use lib.Signed.{leZ, _≤ℤ_, _<ℤ_}
 use mir.Syntax.{w64}
 use mir.Val.{SFits}
-use Rattle.integers.specs.Extremes.{minZ, maxZ}
 use Rattle.integers.proofs.Order.{zarith, ≤ℤ-trans, mag-parts}
 use Rattle.integers.proofs.Signs.{min-parts, max-parts, min-least, max-greatest, min-right, max-right}
 use Rattle.integers.proofs.Tests.{and-true, le-true, le-false, true-le, not-both}

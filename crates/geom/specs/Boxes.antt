@@ -1,7 +1,7 @@
 -- Closed boxes (document 01, item 1).
 use mathlib.Core.Bool.{Bool, _&&_}
 use Prim.Native.Nat.{_^_}
-use lib.IntN.{ℤ, pos, negℤ}
+use lib.IntN.{pos, negℤ}
 use lib.Signed.{leZ}
 use Rattle.integers.specs.Extremes.{minZ, maxZ}
 use Rattle.geom.specs.declared.Point.{Point}

@@ -1,9 +1,8 @@
 -- A signed value that went through bits, `toZ w64 (ofZ w64 z)`, as the machine leaves it in a need. Assumes nothing.
 use mathlib.Core.Path.{_≡_, sym, _∙_, subst}
-use Prim.Native.Nat.{_<_, _≤_, _^_}
+use Prim.Native.Nat.{_<_, _^_}
 use native.Mathlib.Omega.{arith}
 use lib.IntN.{ℤ, natAbs}
-use lib.Signed.{mag}
 use mir.Syntax.{w64}
 use mir.Val.{SFits, toZ, ofZ}
 use mir.Facts.{toZ-ofZ}

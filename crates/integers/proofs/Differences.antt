@@ -1,12 +1,12 @@
 -- An integer as a difference of two naturals, a ⊖ b, and the rules that carry the ring and the order of ℤ to ℕ.
-use mathlib.Core.Path.{_≡_, refl, sym, _∙_, ap, subst}
+use mathlib.Core.Path.{_≡_, refl, sym, ap, subst}
 use mathlib.Core.Logic.{_↔_}
 use mathlib.Core.Bool.{Bool, true, false, not, cond}
 use Prim.Native.Nat.{ℕ, zero, suc, _+_, _*_, _-_, _≤_, _<_}
 use native.Mathlib.Omega.{arith}
-use lib.Dec.{T, ltb, leb, ltb→lt, nltb→le, leb→le, le→leb, lt→ltb}
-use lib.IntN.{ℤ, pos, negsuc, negℤ, subℕ, _+ℤ_, _-ℤ_, _*ℤ_, +ℤ-invr, pos-ne-negsuc}
-use lib.Signed.{leZ, ltZ, _≤ℤ_, _<ℤ_}
+use lib.Dec.{T, ltb, ltb→lt, nltb→le, leb→le, le→leb, lt→ltb}
+use lib.IntN.{ℤ, pos, negsuc, negℤ, subℕ, _+ℤ_, _*ℤ_}
+use lib.Signed.{_≤ℤ_, _<ℤ_}
 
 infix 60 _⊖_
 pub _⊖_ : ℕ → ℕ → ℤ

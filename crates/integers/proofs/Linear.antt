@@ -1,12 +1,9 @@
 -- Sums and products of integers read by omega through an expression: `lin ρ e` gives the two parts of `eval ρ e` from those of the variables.
-use mathlib.Core.Path.{_≡_, refl, sym, _∙_, ap, ap₂}
-use mathlib.Core.List.{List, [], _∷_}
-use Prim.Native.Nat.{ℕ, zero, suc, _+_, _*_, _≤_, _<_}
-use native.Mathlib.Omega.{arith}
-use lib.IntN.{ℤ, pos, negsuc, negℤ, _+ℤ_, _-ℤ_, _*ℤ_}
-use lib.Signed.{_≤ℤ_, _<ℤ_}
+use mathlib.Core.Path.{_≡_, sym, _∙_, ap, ap₂}
+use mathlib.Core.List.{List}
+use Prim.Native.Nat.{ℕ, _+_, _*_}
+use lib.IntN.{ℤ, negℤ, _+ℤ_, _*ℤ_}
 use Rattle.integers.proofs.Differences.{_⊖_, up, dn, parts, ⊖-add, ⊖-neg, ⊖-mul, eq-⊖}
-use Rattle.integers.proofs.Order.{zarith}
 use Rattle.integers.proofs.Polynomials.{Expr, var, con, neg, _:+_, _:-_, _:*_, at, eval}
 
 -- the two parts, the greater first

@@ -1,11 +1,11 @@
 -- A solver for equations of commutative rings over ℤ. `ring ρ e f refl` proves `eval ρ e ≡ eval ρ f` where the two have one normal form:
 -- a list of terms, each a coefficient and a sorted list of the variables' numbers, in rising order and with no coefficient zero.
-use mathlib.Core.Path.{_≡_, refl, sym, _∙_, ap, ap₂, subst}
+use mathlib.Core.Path.{_≡_, refl, sym, _∙_, ap, ap₂}
 use mathlib.Core.List.{List, [], _∷_}
-use mathlib.Core.Bool.{Bool, true, false, not, _&&_}
+use mathlib.Core.Bool.{Bool, true, false}
 use Prim.Native.Nat.{ℕ, zero, suc, compare, Ordering, Ordering·lt, Ordering·eq, Ordering·gt}
-use lib.Dec.{T, leb, eqb, eqb→eq, isEq}
-use lib.IntN.{ℤ, pos, negsuc, negℤ, _+ℤ_, _-ℤ_, _*ℤ_, *ℤ-comm, +ℤ-comm, +ℤ-assoc, +ℤ-idl, +ℤ-idr, zero-*ℤ, *ℤ-zero}
+use lib.Dec.{T, leb, eqb→eq, isEq}
+use lib.IntN.{ℤ, pos, negsuc, negℤ, _+ℤ_, _-ℤ_, _*ℤ_, +ℤ-assoc, +ℤ-idl, zero-*ℤ, *ℤ-zero}
 use Rattle.integers.proofs.Differences.{byℕ, diff}
 use Rattle.integers.proofs.Order.{*ℤ-assoc, *ℤ-distl, *ℤ-distr, neg-*ℤ, +ℤ-left-comm, *ℤ-left-comm}
 use native.Mathlib.Omega.{arith}

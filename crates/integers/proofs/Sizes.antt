@@ -1,14 +1,14 @@
 -- The size of an expression, by computing: bounds of its variables' sizes bound it, and so show that it fits a signed type.
 -- Assumes nothing.
-use mathlib.Core.Path.{_≡_, refl, sym, _∙_, ap, ap₂, subst}
+use mathlib.Core.Path.{_≡_}
 use mathlib.Core.List.{List, [], _∷_}
-use Prim.Native.Nat.{ℕ, zero, suc, _+_, _*_, _≤_, _<_, _^_, zero-le}
+use Prim.Native.Nat.{ℕ, zero, suc, _+_, _*_, _≤_, _^_, zero-le}
 use native.Mathlib.Nat.{mul-le-mul, le-trans, lt-of-le-of-lt}
 use native.Mathlib.Omega.{arith}
-use lib.Dec.{T, ltb, ltb→lt, lit<}
-use lib.IntN.{ℤ, pos, negsuc, negℤ, natAbs, _+ℤ_, _-ℤ_, _*ℤ_}
+use lib.Dec.{T, ltb, ltb→lt}
+use lib.IntN.{ℤ, pos, negsuc, natAbs, _+ℤ_, _-ℤ_}
 use lib.Signed.{mag}
-use mir.Syntax.{Width, w64}
+use mir.Syntax.{Width}
 use mir.Val.{SFits, hbits}
 use Rattle.integers.proofs.Differences.{up, dn}
 use Rattle.integers.proofs.Order.{abs-parts}

@@ -4,7 +4,6 @@ use mathlib.Core.Bool.{Bool, true, false, not, _&&_, _||_}
 use lib.Dec.{T, not-T}
 use lib.IntN.{ℤ}
 use lib.Signed.{leZ, ltZ, _≤ℤ_, _<ℤ_, clashℤ, leZ-yes, ltZ-yes, ltZ-no}
-use Rattle.integers.proofs.Order.{zarith}
 
 -- ---- flags
 pub T-true : (b : Bool) → T b → b ≡ true
@@ -20,6 +19,14 @@ true-T e = subst T (sym e) tt
 
 pub false-T : {b : Bool} → b ≡ false → T (not b)
 false-T e = subst (λ b. T (not b)) (sym e) tt
+
+pub and-left : (a b : Bool) → T (a && b) → T a
+and-left true b t = tt
+and-left false b t = t
+
+pub and-right : (a b : Bool) → T (a && b) → T b
+and-right true b t = t
+and-right false b t = absurd t
 
 pub and-true : (a b : Bool) → a && b ≡ true → (a ≡ true) × (b ≡ true)
 and-true true b e = (refl, e)

@@ -1,7 +1,8 @@
 -- What a sign with a size of one word or of two stands for.
-use mathlib.Core.Bool.{Bool, true, false}
+use mathlib.Core.Path.{_≡_}
+use mathlib.Core.Bool.{Bool, true, false, not, Bool·beq}
 use Prim.Native.Nat.{ℕ, _+_, _*_, _^_}
-use lib.IntN.{ℤ, pos, negℤ, natAbs}
+use lib.IntN.{ℤ, pos, negℤ, natAbs, _*ℤ_}
 use lib.Signed.{ltZ}
 use Rattle.integers.specs.declared.Signed.{Signed}
 use Rattle.integers.specs.declared.Wide.{Wide}
@@ -27,3 +28,8 @@ sizeOf w = w .hi * 2 ^ 64 + w .lo
 unfoldable pub wideValueOf : SignedWide → ℤ
 unfolding sizeOf
 wideValueOf w = under (w .negative) (sizeOf (w .size))
+
+-- the exact product: under a minus sign exactly if the two signs differ
+pub record IsProduct (a b : Signed) (r : SignedWide) : Type 0 where
+  pub sign : r .negative ≡ not (Bool·beq (a .negative) (b .negative))
+  pub exact : wideValueOf r ≡ valueOf a *ℤ valueOf b

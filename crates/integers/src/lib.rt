@@ -2,11 +2,11 @@
 ghost use mathlib.Core.Path.{_≡_};
 ghost use Prim.Native.Nat.{_*_, _^_};
 ghost use lib.Dec.{eqb};
-ghost use lib.IntN.{pos, _+ℤ_, _-ℤ_, _*ℤ_};
+ghost use lib.IntN.{pos, _+ℤ_, _-ℤ_};
 ghost use Rattle.integers.specs.Extremes.{minZ, maxZ};
 ghost use Rattle.integers.specs.Halves.{floorHalf, ceilingHalf};
 ghost use Rattle.integers.specs.Signs.{signOf};
-ghost use Rattle.integers.specs.Words.{signedOf, valueOf, sizeOf, wideValueOf};
+ghost use Rattle.integers.specs.Words.{signedOf, sizeOf, wideValueOf, IsProduct};
 
 /// The sign of an integer.
 pub enum Sign {
@@ -110,7 +110,7 @@ pub fn product(u: u64, v: u64) -> Wide
 
 /// The exact product of two signed numbers.
 pub fn signed_product(a: Signed, b: Signed) -> SignedWide
-    ensures { λ r. ⌜ wideValueOf r ≡ valueOf a *ℤ valueOf b ⌝ }
+    ensures { λ r. ⌜ IsProduct a b r ⌝ }
 {
     let size = product(a.size, b.size);
     SignedWide {

@@ -1,6 +1,6 @@
 -- The closed segment by its two tests. Assumes nothing.
 use mathlib.Core.Path.{_≡_, _∙_, ap, sym}
-use mathlib.Core.Bool.{Bool, true, false, _&&_}
+use mathlib.Core.Bool.{true, false, _&&_}
 use Rattle.integers.specs.declared.Sign.{Sign}
 use Rattle.integers.specs.Signs.{signOf, isZero}
 use Rattle.integers.proofs.Tests.{and-none, and-same}

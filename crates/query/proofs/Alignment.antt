@@ -1,10 +1,10 @@
 -- Two tables read side by side: the polygon table cuts the rings that the ring table cuts out of the corners. `first` is the ring
 -- reached, `start` the corner at which it starts. Assumes nothing.
 use mathlib.Core.Path.{_≡_, refl, sym, _∙_, ap, subst}
-use mathlib.Core.List.{List, [], _∷_}
+use mathlib.Core.List.{List}
 use Prim.Native.Nat.{ℕ, _+_, _-_, _≤_}
 use native.Mathlib.Omega.{arith}
-use lib.ListN.{length, take, drop}
+use lib.ListN.{take, drop}
 use lib.Seq.{drop-drop}
 use Rattle.query.specs.declared.rows.Form.{Form}
 use Rattle.rings.specs.Parts.{part}

@@ -14,7 +14,7 @@ use Rattle.rules.specs.declared.Kind.the-variants.{Polygons}
 use Rattle.rules.specs.declared.Location.{Location}
 use Rattle.rules.specs.declared.Location.the-variants.{Outside, Inside, OnBoundary}
 use Rattle.rules.specs.declared.Refusal.{Refusal}
-use Rattle.rules.specs.declared.Refusal.the-variants.{Uneven, Unsound}
+use Rattle.rules.specs.declared.Refusal.the-variants.{Uneven}
 use Rattle.rules.specs.declared.Reply.{Reply}
 use Rattle.rules.specs.declared.Reply.the-variants.{At, Refused}
 use Rattle.rules.specs.declared.State.{State}

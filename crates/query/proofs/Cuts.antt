@@ -1,14 +1,14 @@
 -- Tables that cut a list into parts, entry by entry. Assumes nothing.
-use mathlib.Core.Path.{_≡_, refl, sym, _∙_, ap, ap₂, subst}
-use mathlib.Core.Logic.{_⊎_, inl, inr, ⊎-elim}
+use mathlib.Core.Path.{_≡_, refl, sym, _∙_, ap, subst}
+use mathlib.Core.Logic.{⊎-elim}
 use mathlib.Core.List.{List, [], _∷_}
 use Prim.Native.Nat.{ℕ, zero, suc, _+_, _-_, _≤_, _<_}
 use native.Mathlib.Numerals.{add-one}
 use native.Mathlib.Omega.{arith}
 use lib.ListN.{length, getD, take, drop, drop-of-length-le, length-drop}
 use lib.Seq.{drop-cons, drop-drop, take-all}
-use Rattle.rules.specs.Lists.{partsOf, total}
-use Rattle.rules.specs.Tables.{endsFrom, lengthsFrom}
+use Rattle.rules.specs.Lists.{partsOf}
+use Rattle.rules.specs.Tables.{lengthsFrom}
 use Rattle.query.specs.declared.rows.Form.{Form}
 use Rattle.query.specs.declared.rows.Form.the-variants.{Lengths, Ends}
 use Rattle.query.specs.declared.rows.End.the-variants.{Misfit}

@@ -1,14 +1,14 @@
 -- A loop over a table that cuts a list into parts: what is reached, in either form, and how one entry more carries it on.
 -- `Rel` is what the loop knows of the parts still to come. Assumes nothing.
-use mathlib.Core.Path.{_≡_, refl, sym, _∙_, ap, subst}
+use mathlib.Core.Path.{sym, _∙_, ap, subst}
 use mathlib.Core.List.{List, [], _∷_}
 use Prim.Native.Nat.{ℕ, _+_, _≤_, _<_}
 use native.Mathlib.Omega.{arith}
-use lib.ListN.{length, getD, drop}
+use lib.ListN.{length, drop}
 use Rattle.query.specs.declared.rows.Form.{Form}
 use Rattle.query.specs.declared.rows.End.the-variants.{At, Misfit}
 use Rattle.rings.specs.Parts.{part}
-use Rattle.query.specs.Rows.{endAt, Within, partsFrom, EndSays}
+use Rattle.query.specs.Rows.{Within, partsFrom, EndSays}
 use Rattle.query.proofs.Cuts.{none-left, within-step, misfit, parts-step, parts-none}
 
 module _ {A : Type 0} (form : Form) (limit start : ℕ) (xs : List A) (table : List ℕ) where

@@ -1,8 +1,8 @@
 -- Item 4's rules, one ring or polygon at a time. Assumes nothing.
-use mathlib.Core.Path.{_≡_, refl, sym, _∙_, ap, ap₂, subst}
+use mathlib.Core.Path.{_≡_, refl, sym, _∙_, ap, subst}
 use mathlib.Core.Bool.{Bool, true, false, not, cond, _||_}
 use mathlib.Core.List.{List, [], _∷_}
-use Prim.Native.Nat.{ℕ, suc}
+use Prim.Native.Nat.{suc}
 use lib.Dec.{T}
 use Rattle.geom.specs.declared.Point.{Point}
 use Rattle.rules.specs.declared.Location.{Location}

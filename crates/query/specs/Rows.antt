@@ -2,7 +2,7 @@
 use mathlib.Core.Path.{_≡_}
 use mathlib.Core.Logic.{_⊎_}
 use mathlib.Core.List.{List, [], _∷_}
-use Prim.Native.Nat.{ℕ, _+_, _-_, _≤_, _<_}
+use Prim.Native.Nat.{ℕ, _+_, _≤_, _<_}
 use lib.ListN.{getD, drop}
 use Rattle.rules.specs.Lists.{partsOf}
 use Rattle.rules.specs.Tables.{lengthsFrom}

@@ -1,6 +1,5 @@
 // Look-ups in a whole plan: as it is handed in, and in the tables of a prepared one (document 01, items 4, 6, 7 and 9).
 ghost use mathlib.Core.Path.{_≡_};
-ghost use Prim.Native.Nat.{ℕ};
 ghost use Rattle.geom.specs.Range.{inRange, inDoubledRange};
 ghost use Rattle.rules.specs.Plans.{planVerdict, planReply, planHalfReply, answer};
 ghost use Rattle.rules.specs.Tables.{planOf, polygonsIn};

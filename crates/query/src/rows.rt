@@ -1,6 +1,5 @@
 // The two forms of a table that cuts a list into parts: the length of each part, as a plan is handed in, or where each part ends, as
 // a prepared plan keeps it.
-ghost use mathlib.Core.Path.{_≡_};
 ghost use Prim.Native.Nat.{_≤_, _<_};
 ghost use lib.ListN.{length};
 ghost use Rattle.query.specs.Rows.{EndSays, RunSays};

@@ -1,7 +1,7 @@
 -- How an edge counts, as the code finds it: the heights first, the turn only where the edge passes the point's height. Assumes nothing.
 use mathlib.Core.Path.{_≡_, refl, sym, _∙_, ap}
 use mathlib.Core.Bool.{Bool, true, false, not, cond, _&&_, _||_}
-use Prim.Native.Nat.{ℕ, zero, suc, _≤_}
+use Prim.Native.Nat.{zero, suc, _≤_}
 use lib.Dec.{T, lit≤}
 use lib.IntN.{ℤ, pos, negsuc, natAbs, _-ℤ_}
 use lib.Signed.{leZ, ltZ}

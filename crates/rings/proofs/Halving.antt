@@ -2,7 +2,7 @@
 -- Assumes nothing.
 use mathlib.Core.Path.{_≡_, refl, sym, _∙_, ap, ap₂, subst}
 use mathlib.Core.Bool.{Bool, true, false, not, cond, _||_}
-use mathlib.Core.List.{List, [], _∷_, _++_, map}
+use mathlib.Core.List.{List, [], _∷_, map}
 use Prim.Native.Nat.{ℕ, suc, _+_, _*_, _<_, _≤_, _^_}
 use native.Mathlib.Omega.{arith}
 use lib.IntN.{ℤ, pos, _+ℤ_, _*ℤ_}
@@ -20,16 +20,13 @@ use Rattle.predicates.specs.Turn.{onSegment}
 use Rattle.integers.specs.declared.Sign.{Sign}
 use Rattle.integers.specs.declared.Sign.the-variants.{Negative, Zero, Positive}
 use Rattle.integers.specs.Signs.{signOf}
-use Rattle.rules.specs.declared.Location.{Location}
-use Rattle.rules.specs.declared.Location.the-variants.{Outside, Inside, OnBoundary}
-use Rattle.rules.specs.Edges.{Edge, edgesFrom, edgesOf, allEdges, edgeWinding, onEdge}
+use Rattle.rules.specs.Edges.{Edge, edgesFrom, edgesOf, edgeWinding, onEdge}
 use Rattle.rules.specs.Lists.{anyOf, countOf, isOdd, xor}
 use Rattle.rules.specs.Plans.{cornersOf, cornerAt}
-use Rattle.rules.specs.Replies.{isNonzero, crosses}
+use Rattle.rules.specs.Replies.{crosses}
 use Rattle.rules.proofs.Flags.{xor-assoc, xor-none}
-use Rattle.rules.proofs.FourRays.{odd-suc, odd-count, oddly, oddly-append, on-append}
-use Rattle.rings.specs.declared.crossings.Crossing.{Crossing}
-use Rattle.rings.specs.declared.crossings.Crossing.the-variants.{Nothing, Up, Down, On}
+use Rattle.rules.proofs.FourRays.{odd-suc}
+use Rattle.rings.specs.declared.crossings.Crossing.the-variants.{On}
 use Rattle.rings.specs.declared.half.Parity.{Parity}
 use Rattle.rings.specs.declared.half.Parity.the-variants.{Even, Odd}
 use Rattle.rings.specs.declared.half.Parity as Parity

@@ -7,7 +7,6 @@ use lib.IntN.{ℤ, pos, _+ℤ_, +ℤ-idl, +ℤ-idr, +ℤ-assoc}
 use Rattle.integers.proofs.Tests.{or-none}
 use Rattle.geom.specs.declared.Point.{Point}
 use Rattle.predicates.specs.Turn.{onSegment}
-use Rattle.rules.specs.declared.Location.{Location}
 use Rattle.rules.specs.declared.Location.the-variants.{Outside, Inside, OnBoundary}
 use Rattle.rules.specs.Edges.{Edge, edgesFrom, edgesOf, edgeWinding, winding, onEdge}
 use Rattle.rules.specs.Lists.{anyOf, sumOf}

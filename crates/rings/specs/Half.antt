@@ -1,11 +1,9 @@
 -- The half-grid edge by edge (document 01, item 7).
 use mathlib.Core.Bool.{Bool, true, false, not, cond}
-use mathlib.Core.List.{List, map}
+use mathlib.Core.List.{List}
 use Rattle.geom.specs.declared.Point.{Point}
 use Rattle.geom.specs.Range.{inRange}
-use Rattle.rules.specs.declared.Location.{Location}
-use Rattle.rules.specs.declared.Location.the-variants.{Outside, Inside, OnBoundary}
-use Rattle.rules.specs.Edges.{Edge, allEdges, onEdge}
+use Rattle.rules.specs.Edges.{Edge, onEdge}
 use Rattle.rules.specs.Lists.{countOf, isOdd, xor}
 use Rattle.rules.specs.Replies.{doubled, crosses}
 use Rattle.rings.specs.declared.crossings.Crossing.{Crossing}

@@ -1,16 +1,8 @@
 -- Flags: conjunctions, disjunctions and parity. Assumes nothing.
 use mathlib.Core.Path.{_≡_, refl, sym, _∙_, ap, subst}
-use mathlib.Core.Bool.{Bool, true, false, not, cond, _&&_, _||_}
+use mathlib.Core.Bool.{Bool, true, false, not, _&&_, _||_}
 use lib.Dec.{T}
 use Rattle.rules.specs.Lists.{xor}
-
-pub and-left : (a b : Bool) → T (a && b) → T a
-and-left true b t = tt
-and-left false b t = t
-
-pub and-right : (a b : Bool) → T (a && b) → T b
-and-right true b t = t
-and-right false b t = absurd t
 
 -- one of three: where the first holds and the second does not, the third does
 pub remaining : (a b c : Bool) → T (not a || (b || c)) → T a → b ≡ false → T c

@@ -1,9 +1,9 @@
 -- Item 6's choice: the ray taken has the least distance, and less than every ray before it in the order right, left, up, down.
 -- Assumes nothing.
-use mathlib.Core.Bool.{Bool, true, false, cond}
+use mathlib.Core.Bool.{Bool, cond}
 use Prim.Native.Nat.{ℕ, suc}
 use lib.IntN.{ℤ}
-use lib.Signed.{leZ, _≤ℤ_, _<ℤ_}
+use lib.Signed.{_≤ℤ_, _<ℤ_}
 use Rattle.integers.proofs.Order.{zarith}
 use Rattle.integers.proofs.Tests.{LeView, isLE, isGT, le-view}
 use Rattle.geom.specs.declared.Point.{Point}

@@ -1,6 +1,6 @@
 -- One edge and the four rays: integers read as signs. Assumes nothing.
 use mathlib.Core.Path.{_≡_, refl, sym, _∙_, ap}
-use mathlib.Core.Bool.{Bool, false, not, cond, _&&_}
+use mathlib.Core.Bool.{false, not}
 use Prim.Native.Nat.{zero, suc}
 use lib.Dec.{T}
 use lib.IntN.{ℤ, pos, negsuc, negℤ, _+ℤ_, _-ℤ_, _*ℤ_}
@@ -8,7 +8,7 @@ use lib.Signed.{leZ}
 use Rattle.integers.specs.Extremes.{minZ, maxZ}
 use Rattle.integers.specs.Signs.{signOf}
 use Rattle.integers.proofs.Polynomials.{ring₂, ring₆, neg, _:-_, _:*_}
-use Rattle.integers.proofs.Signs.{opposite, times, agree-ok, sign-mul, sign-neg, gt-sign, le-sign, ge-sign, le-min, le-max}
+use Rattle.integers.proofs.Signs.{opposite, agree-ok, sign-mul, sign-neg, gt-sign, le-sign, ge-sign, le-min, le-max}
 use Rattle.integers.proofs.Tests.{T-false}
 use Rattle.geom.specs.declared.Point.{Point}
 use Rattle.geom.specs.Boxes.{rectOf}

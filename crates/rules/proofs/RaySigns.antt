@@ -1,7 +1,7 @@
 -- The four rays on signs alone: those of a − p and b − p in x and in y, and of the turn. What is claimed of an edge is a test of five
 -- signs, which antt computes for all 243 of them. Assumes nothing.
 use mathlib.Core.Path.{_≡_}
-use mathlib.Core.Bool.{Bool, true, false, not, cond, _&&_, _||_}
+use mathlib.Core.Bool.{Bool, false, not, cond, _&&_, _||_}
 use lib.Dec.{T}
 use lib.IntN.{ℤ, pos, negsuc, _+ℤ_}
 use lib.Signed.{leZ, leZ-yes}
@@ -9,12 +9,13 @@ use Rattle.integers.specs.declared.Sign.{Sign}
 use Rattle.integers.specs.declared.Sign.the-variants.{Negative, Zero, Positive}
 use Rattle.integers.specs.Signs.{isNegative, isZero, isPositive}
 use Rattle.integers.proofs.Order.{≤ℤ-antisym}
+use Rattle.integers.proofs.Tests.{and-left, and-right}
 use Rattle.integers.proofs.Signs.{opposite, times, agree}
 use Rattle.rules.specs.declared.Ray.{Ray}
 use Rattle.rules.specs.declared.Ray.the-variants.{Right, Left, Up, Down}
 use Rattle.rules.specs.Replies.{isNonzero}
 use Rattle.rules.specs.Lists.{xor}
-use Rattle.rules.proofs.Flags.{and-left, and-right, remaining, same, same-is}
+use Rattle.rules.proofs.Flags.{remaining, same, same-is}
 
 -- ---- the rules, of signs
 

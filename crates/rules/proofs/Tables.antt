@@ -1,23 +1,21 @@
 -- The tables of a plan that passes refusals 4 and 3 with every corner in range are sound, and hold that plan. So soundness is no empty
 -- premise: each such plan has tables that meet it. Assumes nothing.
-use mathlib.Core.Path.{_≡_, refl, sym, _∙_, ap, ap₂, subst}
-use mathlib.Core.Bool.{Bool, true, false, not, cond, _||_}
+use mathlib.Core.Path.{_≡_, refl, sym, _∙_, ap, ap₂}
+use mathlib.Core.Bool.{true, false}
 use mathlib.Core.List.{List, [], _∷_}
-use Prim.Native.Nat.{ℕ, suc, _+_, _-_, _*_, _/_, _%_, _≤_}
+use Prim.Native.Nat.{ℕ, suc, _+_, _-_, _*_, _%_}
 use native.Mathlib.Omega.{arith}
 use borrow.Author.Tests.{eqb-false}
-use lib.Dec.{eqb}
 use lib.IntN.{ℤ}
 use lib.ListN.{length, take}
 use lib.Seq.{take-length, take-all}
 use Rattle.integers.proofs.Tests.{or-false}
-use Rattle.rules.specs.declared.Kind.{Kind}
 use Rattle.rules.specs.declared.Kind.the-variants.{Polygons, Tree}
 use Rattle.rules.specs.declared.State.{State}
 use Rattle.rules.specs.declared.Verdict.the-variants.{Accepted}
 use Rattle.rules.specs.Lists.{isOdd}
 use Rattle.rules.specs.Plans.{Plan, cornerCount, uneven, planVerdict, planInRange}
-use Rattle.rules.specs.Tables.{endsFrom, lengthsFrom, polygonsIn, planOf, PlanSound}
+use Rattle.rules.specs.Tables.{endsFrom, lengthsFrom, planOf, PlanSound}
 use Rattle.rules.proofs.Verdicts.{accepted-passes}
 
 -- ---- ends and lengths

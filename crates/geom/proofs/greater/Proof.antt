@@ -1,6 +1,5 @@
 -- `geom::greater` meets its contract: what `max` gave of each coordinate, read back.
 use borrow.Author.Needs.{needs}
-use mir.Val.{SFits}
 use Rattle.integers.specs.Extremes.{maxZ}
 use Rattle.integers.proofs.Bits.{got₂}
 use Rattle.geom.proofs.greater.Statement.{statement}

@@ -1,6 +1,5 @@
 -- `geom::lesser` meets its contract: what `min` gave of each coordinate, read back.
 use borrow.Author.Needs.{needs}
-use mir.Val.{SFits}
 use Rattle.integers.specs.Extremes.{minZ}
 use Rattle.integers.proofs.Bits.{got₂}
 use Rattle.geom.proofs.lesser.Statement.{statement}

@@ -1,13 +1,12 @@
 -- `integers::above_least` meets its contract: below zero by way of −1 − z, which is never negative there.
-use mathlib.Core.Path.{_≡_, _∙_, ap, sym, subst}
-use Prim.Native.Nat.{ℕ, _+_, _-_, _≤_, _<_, _^_}
+use mathlib.Core.Path.{_≡_, _∙_, sym, subst}
+use Prim.Native.Nat.{_<_, _^_}
 use native.Mathlib.Omega.{arith}
-use lib.Dec.{T}
 use lib.IntN.{ℤ, pos, negsuc, natAbs, _-ℤ_}
-use lib.Signed.{mag, ltZ, nonNeg, yes-nonNeg, _≤ℤ_, _<ℤ_}
+use lib.Signed.{mag, yes-nonNeg, _≤ℤ_, _<ℤ_}
 use mir.Facts.{toZ-ofZ}
 use mir.Syntax.{w64}
-use mir.Val.{SFits, Fits}
+use mir.Val.{SFits}
 use Rattle.integers.proofs.Bits.{rd, rd-is, fit₁, val₁}
 use Rattle.integers.proofs.Tests.{true-lt, false-lt}
 use Rattle.integers.proofs.Words.{mirrored, above-negative, above-other, other-size}

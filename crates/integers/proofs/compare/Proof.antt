@@ -1,8 +1,7 @@
 -- `integers::compare` meets its contract: under one sign the sizes decide, under two the signs, unless both sizes are 0.
 use mathlib.Core.Path.{_≡_, _∙_, ap, sym}
-use mathlib.Core.Bool.{Bool, true, false, _&&_}
+use mathlib.Core.Bool.{true, false, _&&_}
 use lib.Dec.{eqb}
-use lib.IntN.{_-ℤ_}
 use borrow.Author.Needs.{needs}
 use Rattle.integers.specs.Signs.{signOf}
 use Rattle.integers.specs.Words.{sizeOf}

@@ -2,9 +2,9 @@
 use mathlib.Core.Path.{_≡_, _∙_, ap, sym}
 use Prim.Native.Nat.{_^_}
 use native.Mathlib.Omega.{arith}
-use lib.IntN.{ℤ, pos, _+ℤ_}
+use lib.IntN.{pos, _+ℤ_}
 use borrow.Author.Needs.{needs}
-use Rattle.integers.proofs.Bits.{rd, rd-is}
+use Rattle.integers.proofs.Bits.{rd-is}
 use Rattle.integers.proofs.Words.{signed-less, signed-more}
 use Rattle.integers.proofs.difference.Statement.{statement}
 use Rattle.integers.proofs.difference.Tie as tie

@@ -1,5 +1,5 @@
 -- `integers::product` meets its contract: each column of 32 bits fits, and the columns make up the product.
-use Prim.Native.Nat.{ℕ, _*_, _/_, _%_, _≤_}
+use Prim.Native.Nat.{_*_, _/_, _%_, _≤_}
 use native.Mathlib.Omega.{arith}
 use Rattle.integers.specs.Words.{sizeOf}
 use Rattle.integers.proofs.Words.{half, by-columns, column-fits}

@@ -1,7 +1,6 @@
 -- `integers::signed_product` meets its contract: the sizes' product under the product of the signs.
-use mathlib.Core.Path.{_∙_, ap}
+use mathlib.Core.Path.{refl, _∙_, ap}
 use mathlib.Core.Bool.{not, Bool·beq}
-use Prim.Native.Nat.{ℕ}
 use borrow.Author.Needs.{needs}
 use Rattle.integers.specs.Words.{under, wideValueOf}
 use Rattle.integers.proofs.Words.{under-mul}
@@ -16,7 +15,10 @@ unfolding wideValueOf
 returns c =
     let a = c .before .before .before .args .a in
     let b = c .before .before .before .args .b in
-    ap (under (not (Bool·beq (a .negative) (b .negative)))) (c .before .before .product .ensures) ∙ under-mul (a .negative) (b .negative) (a .size) (b .size)
+    record {
+      sign = refl;
+      exact = ap (under (not (Bool·beq (a .negative) (b .negative)))) (c .before .before .product .ensures) ∙ under-mul (a .negative) (b .negative) (a .size) (b .size);
+    }
 
 pub signed-product-spec : {M : Type 1} → statement M
 signed-product-spec = tie.close (tie.spec product-requires returns)

@@ -23,7 +23,7 @@ returns c =
     let a = s .args in
     let first : valueOf (c .before .before .difference .result) ≡ a .a -ℤ a .b = ap valueOf (c .before .before .difference .ensures) ∙ value-signed _ ∙ read₂ _-ℤ_ (a .a) (a .b) (s .fits .a) (s .fits .b) in
     let second : valueOf (c .before .difference2 .result) ≡ a .c -ℤ a .d = ap valueOf (c .before .difference2 .ensures) ∙ value-signed _ ∙ read₂ _-ℤ_ (a .c) (a .d) (s .fits .c) (s .fits .d) in
-    c .signed-product .ensures ∙ (λ i. first i *ℤ second i)
+    c .signed-product .ensures .exact ∙ (λ i. first i *ℤ second i)
 
 pub product-of-differences-spec : {M : Type 1} → statement M
 product-of-differences-spec =

@@ -1,20 +1,19 @@
 -- `query::half::half_reply` meets its contract. The invariant: no edge hit so far, and the parity of the edges so far.
-use mathlib.Core.Path.{_≡_, refl, sym, _∙_, ap, subst}
-use mathlib.Core.Bool.{true, false, cond}
+use mathlib.Core.Path.{refl, sym, _∙_, ap, subst}
+use mathlib.Core.Bool.{false}
 use mathlib.Core.Logic.{inl, inr}
-use Prim.Native.Nat.{ℕ, _+_, _-_, _/_, _<_}
+use Prim.Native.Nat.{_+_, _-_, _/_}
 use native.Mathlib.Omega.{arith}
 use lib.ListN.{length, drop}
 use borrow.Author.Needs.{needs}
-use Rattle.rules.specs.declared.Location.the-variants.{Outside, Inside, OnBoundary}
+use Rattle.rules.specs.declared.Location.the-variants.{OnBoundary}
 use Rattle.rules.specs.declared.Reply.the-variants.{At}
 use Rattle.rules.specs.Plans.{cornersOf}
 use Rattle.query.specs.declared.rows.End.the-variants as End
 use Rattle.rings.specs.Parts.{part}
 use Rattle.query.specs.Rows.{partsFrom, EndSays}
 use Rattle.query.proofs.Progress.{Reached, begun, refused, over, ahead, onward}
-use Rattle.rules.specs.Edges.{edgesOf}
-use Rattle.rings.specs.Half.{nearDoubled, parityOn, parityOdd, ringParity}
+use Rattle.rings.specs.Half.{parityOn, parityOdd}
 use Rattle.query.proofs.HalfSteps.{Crossed, none-crossed, ring-crossed, ring-hit, all-crossed}
 use Rattle.query.proofs.half.half_reply.Statement.{statement}
 use Rattle.query.proofs.half.half_reply.Tie as tie

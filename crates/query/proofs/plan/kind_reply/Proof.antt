@@ -1,9 +1,7 @@
 -- `query::plan::kind_reply` meets its contract: what the list's or the tree's call says.
-use mathlib.Core.Path.{_≡_, refl, sym, _∙_, ap, subst}
-use mathlib.Core.Bool.{true}
+use mathlib.Core.Path.{refl, sym, _∙_, ap, subst}
 use borrow.Author.Needs.{needs}
 use Rattle.rules.specs.declared.Kind.{Kind}
-use Rattle.rules.specs.declared.Kind.the-variants.{Polygons, Tree}
 use Rattle.rules.specs.declared.Reply.the-variants.{At}
 use Rattle.query.specs.Calls.{PlanShown}
 use Rattle.query.proofs.Fits.{list-is, tree-is}

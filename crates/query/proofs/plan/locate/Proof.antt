@@ -1,13 +1,11 @@
 -- `query::plan::locate` meets its contract: the plan's refusal, then the range rule, then the reply ring by ring.
-use mathlib.Core.Path.{_≡_, refl, sym, _∙_, ap}
+use mathlib.Core.Path.{_≡_, sym, _∙_, ap}
 use mathlib.Core.Bool.{true, false}
 use borrow.Author.Needs.{needs}
 use Rattle.integers.proofs.Tests.{not-true, not-false}
 use Rattle.geom.specs.Range.{inRange}
-use Rattle.rules.specs.declared.Reply.the-variants.{At}
 use Rattle.rules.specs.declared.Verdict.the-variants.{Accepted}
 use Rattle.rules.specs.Plans.{planVerdict, planInRange, planReply, answer}
-use Rattle.query.specs.declared.rows.Form.the-variants.{Lengths}
 use Rattle.query.proofs.Fits.{accepted-fits, located}
 use Rattle.query.proofs.LookUps.{far}
 use Rattle.query.proofs.plan.locate.Statement.{statement}

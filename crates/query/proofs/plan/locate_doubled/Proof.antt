@@ -1,5 +1,5 @@
 -- `query::plan::locate_doubled` meets its contract: the plan's refusal, then the range rule, then the reply ring by ring.
-use mathlib.Core.Path.{_≡_, refl, sym, _∙_, ap}
+use mathlib.Core.Path.{_≡_, sym, _∙_, ap}
 use mathlib.Core.Bool.{true, false}
 use borrow.Author.Needs.{needs}
 use Rattle.integers.proofs.Tests.{not-true, not-false}

@@ -1,9 +1,9 @@
 -- `query::plan::locate_doubled_by_rings` meets its contract: settled early, a table too short, or the reply ring by ring.
-use mathlib.Core.Path.{_≡_, refl, sym, _∙_, ap, subst}
-use mathlib.Core.Bool.{true, false}
-use Prim.Native.Nat.{ℕ, _*_}
+use mathlib.Core.Path.{_≡_, sym, _∙_, ap}
+use mathlib.Core.Bool.{true}
+use Prim.Native.Nat.{_*_}
 use native.Mathlib.Omega.{arith}
-use lib.ListN.{length, take, length-take}
+use lib.ListN.{take, length-take}
 use borrow.Author.Needs.{needs}
 use Rattle.integers.proofs.Tests.{not-true, not-false}
 use Rattle.geom.specs.Range.{inDoubledRange}
@@ -11,7 +11,6 @@ use Rattle.rules.specs.declared.Reply.the-variants.{At}
 use Rattle.rules.specs.Plans.{planHalfReply}
 use Rattle.rules.specs.Tables.{planOf, polygonsIn}
 use Rattle.query.specs.declared.rows.Form.the-variants.{Ends}
-use Rattle.query.specs.Calls.{PlanShown}
 use Rattle.query.proofs.Fits.{sound-fits, half-located, half-is}
 use Rattle.query.proofs.LookUps.{half-far, marked, beyond, unsound, done, short-is, never-short, Long, long}
 use Rattle.query.proofs.plan.locate_doubled_by_rings.Statement.{statement}

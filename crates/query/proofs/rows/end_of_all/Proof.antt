@@ -1,10 +1,10 @@
 -- `query::rows::end_of_all` meets its contract. The invariant: the parts from k on end where all of them do, and fit if all of them do.
 use mathlib.Core.Path.{_≡_, refl, sym, _∙_, ap, subst}
-use Prim.Native.Nat.{_+_, _-_, _≤_, _<_}
+use Prim.Native.Nat.{_+_, _-_, _≤_}
 use native.Mathlib.Omega.{arith}
-use lib.ListN.{length, getD, drop}
+use lib.ListN.{length, drop}
 use borrow.Author.Needs.{needs}
-use Rattle.query.specs.Rows.{endAt, endBy, Within}
+use Rattle.query.specs.Rows.{endBy, Within}
 use Rattle.query.proofs.Cuts.{within-step, misfit, end-step, done}
 use Rattle.query.proofs.rows.end_of_all.Statement.{statement}
 use Rattle.query.proofs.rows.end_of_all.Tie as tie

@@ -1,13 +1,12 @@
 -- `query::shapes::holes_reply` meets its contract. The invariant: no hole so far decided.
-use mathlib.Core.Path.{_≡_, refl, sym, _∙_, ap}
-use mathlib.Core.Bool.{true, false, cond}
+use mathlib.Core.Path.{refl, sym, _∙_, ap}
 use mathlib.Core.Logic.{inl, inr}
-use Prim.Native.Nat.{ℕ, _+_, _-_, _/_, _<_}
+use Prim.Native.Nat.{_+_, _-_, _/_}
 use native.Mathlib.Omega.{arith}
 use lib.ListN.{length, drop}
 use borrow.Author.Needs.{needs}
 use Rattle.integers.proofs.Tests.{not-true, not-false}
-use Rattle.rules.specs.declared.Location.the-variants.{Outside, Inside, OnBoundary}
+use Rattle.rules.specs.declared.Location.the-variants.{Inside}
 use Rattle.rules.specs.declared.Reply.the-variants.{At}
 use Rattle.rules.specs.Plans.{cornersOf}
 use Rattle.query.specs.declared.rows.End.the-variants as End

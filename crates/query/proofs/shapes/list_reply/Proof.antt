@@ -1,10 +1,9 @@
 -- `query::shapes::list_reply` meets its contract. The invariant: the strongest reply so far and the polygons still to come, with the
 -- ring table kept in step.
 use mathlib.Core.Path.{_≡_, refl, sym, _∙_, ap, subst}
-use mathlib.Core.Bool.{true, false}
-use mathlib.Core.Logic.{inl, inr, ⊎-elim}
+use mathlib.Core.Logic.{inl, inr}
 use mathlib.Core.List.{List, _∷_}
-use Prim.Native.Nat.{ℕ, _+_, _-_, _/_, _≤_, _<_}
+use Prim.Native.Nat.{ℕ, _+_, _-_, _/_, _≤_}
 use native.Mathlib.Omega.{arith}
 use lib.IntN.{ℤ}
 use lib.ListN.{length, drop}
@@ -12,16 +11,13 @@ use borrow.Author.Needs.{needs}
 use Rattle.geom.specs.declared.Point.{Point}
 use Rattle.rules.specs.declared.Location.{Location}
 use Rattle.rules.specs.declared.Location.the-variants.{Outside, Inside}
-use Rattle.rules.specs.declared.Reply.{Reply}
-use Rattle.rules.specs.declared.Reply.the-variants.{At, Refused}
+use Rattle.rules.specs.declared.Reply.the-variants.{At}
 use Rattle.rules.specs.Plans.{cornersOf}
-use Rattle.rules.specs.Replies.{polygonReply, stronger, listReply}
+use Rattle.rules.specs.Replies.{polygonReply, stronger}
 use Rattle.query.specs.declared.rows.Form.{Form}
 use Rattle.query.specs.declared.rows.End.the-variants as End
 use Rattle.rings.specs.Parts.{part}
-use Rattle.query.specs.Rows.{Within, partsFrom, EndSays, RunSays}
-use Rattle.rings.specs.Places.{isInside}
-use Rattle.query.specs.Shapes.{Shown}
+use Rattle.query.specs.Rows.{Within, partsFrom, EndSays}
 use Rattle.query.proofs.Alignment.{Aligned, aligned, slice-fits, slice-is, realigned}
 use Rattle.query.proofs.Progress.{Reached, begun, refused, over, ahead, onward}
 use Rattle.query.proofs.Steps.{Weighed, polygon-weighed, all-weighed, inside-wins, same-place, at-refused}

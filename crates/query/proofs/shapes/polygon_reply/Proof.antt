@@ -1,9 +1,8 @@
 -- `query::shapes::polygon_reply` meets its contract: the outer ring's reply, or else the holes'.
 use mathlib.Core.Path.{_≡_, refl, sym, _∙_, ap, subst}
-use mathlib.Core.Bool.{true, false}
 use mathlib.Core.Logic.{inl, inr}
 use mathlib.Core.List.{List, _∷_}
-use Prim.Native.Nat.{ℕ, _+_, _/_, _<_}
+use Prim.Native.Nat.{_/_}
 use native.Mathlib.Omega.{arith}
 use lib.ListN.{length, drop}
 use borrow.Author.Needs.{needs}
@@ -12,11 +11,10 @@ use Rattle.integers.proofs.Tests.{not-true, not-false}
 use Rattle.rules.specs.declared.Location.the-variants.{Outside}
 use Rattle.rules.specs.declared.Reply.the-variants.{At}
 use Rattle.rules.specs.Plans.{cornersOf}
-use Rattle.rules.specs.Replies.{ringReply, withinOuter, holesReply, polygonReply}
+use Rattle.rules.specs.Replies.{withinOuter, holesReply, polygonReply}
 use Rattle.query.specs.declared.rows.End.the-variants as End
 use Rattle.rings.specs.Parts.{part}
 use Rattle.query.specs.Rows.{Within, partsFrom, EndSays}
-use Rattle.rings.specs.Places.{isInside}
 use Rattle.query.specs.Shapes.{Shown}
 use Rattle.query.proofs.Cuts.{to-the-end, none-left, parts-none}
 use Rattle.query.proofs.Progress.{Reached, begun, refused, ahead, onward}

@@ -1,7 +1,7 @@
 -- `rings::half::doubled_corner` meets its contract: twice a coordinate in range does not wrap.
 use mathlib.Core.Path.{_≡_, _∙_, ap, sym}
-use mathlib.Core.Bool.{true, false, cond}
-use lib.IntN.{ℤ, _+ℤ_}
+use mathlib.Core.Bool.{true, cond}
+use lib.IntN.{_+ℤ_}
 use borrow.Author.Needs.{needs}
 use mir.Syntax.{w64}
 use mir.Val.{SFits}

@@ -1,13 +1,10 @@
 -- `rings::half::ring_parity` meets its contract. The invariant: the parity so far and the edges still to come make up the ring.
-use mathlib.Core.Path.{_≡_, refl, sym, _∙_, ap, subst}
-use mathlib.Core.Bool.{true, false}
-use mathlib.Core.List.{List, [], _∷_, map}
-use Prim.Native.Nat.{ℕ, _+_, _-_, _*_, _≤_, _<_}
+use mathlib.Core.Path.{_≡_, sym, _∙_, ap, subst}
+use mathlib.Core.List.{_∷_, map}
+use Prim.Native.Nat.{_+_, _-_, _≤_}
 use native.Mathlib.Omega.{arith}
-use lib.ListN.{length}
 use borrow.Author.Needs.{needs}
-use Rattle.geom.specs.declared.Point.{Point}
-use Rattle.rules.specs.Plans.{cornersOf, cornerAt}
+use Rattle.rules.specs.Plans.{cornersOf}
 use Rattle.rings.specs.Crossings.{crossingOf, isOn}
 use Rattle.rings.specs.Half.{nearDoubled, crossedOnce, closedParity}
 use Rattle.rings.specs.Parts.{part}

@@ -1,18 +1,15 @@
 -- `rings::ring::ring_reply` meets its contract. The invariant: what is counted so far and the edges still to come make up the ring.
-use mathlib.Core.Path.{_≡_, refl, sym, _∙_, ap, subst}
-use mathlib.Core.Bool.{true, false}
-use mathlib.Core.List.{List, [], _∷_}
-use Prim.Native.Nat.{ℕ, _+_, _-_, _*_, _≤_, _<_}
+use mathlib.Core.Path.{_≡_, sym, _∙_, ap, subst}
+use mathlib.Core.List.{_∷_}
+use Prim.Native.Nat.{_+_, _-_, _≤_}
 use native.Mathlib.Omega.{arith}
-use lib.IntN.{ℤ, pos, natAbs, _+ℤ_}
-use lib.ListN.{length}
+use lib.IntN.{natAbs, _+ℤ_}
 use borrow.Author.Needs.{needs}
 use mir.Syntax.{w64}
 use mir.Val.{toZ}
 use Rattle.integers.proofs.Bits.{rd, rd-is}
 use Rattle.integers.proofs.Sizes.{abs-add}
-use Rattle.geom.specs.declared.Point.{Point}
-use Rattle.rules.specs.Plans.{cornersOf, cornerAt}
+use Rattle.rules.specs.Plans.{cornersOf}
 use Rattle.rings.specs.Crossings.{crossingOf, isOn, weightOf, closedReply}
 use Rattle.rings.specs.Parts.{part}
 use Rattle.rings.proofs.Parts.{part-none, part-corner}
