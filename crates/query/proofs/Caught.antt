@@ -48,6 +48,9 @@ square = pos 0 ∷ pos 0 ∷ pos 10 ∷ pos 0 ∷ pos 10 ∷ pos 10 ∷ pos 0 �
 abbrev pub middle : Point
 middle = record { x = pos 5; y = pos 5 }
 
+abbrev pub doubledMiddle : Point
+doubledMiddle = record { x = pos 10; y = pos 10 }
+
 abbrev beside : Point
 beside = record { x = pos 11; y = pos 5 }
 
@@ -63,7 +66,7 @@ torn-refused : (location : Location) → answer (planVerdict (plan Polygons squa
 unfolding total tooMany uneven planVerdict
 torn-refused location = refl
 
-doubled-outside : answer (planVerdict (plan Polygons square (8 ∷ []) (1 ∷ []))) (planHalfReply (plan Polygons square (8 ∷ []) (1 ∷ [])) (record { x = pos 10; y = pos 10 })) ≡ At Outside
+doubled-outside : answer (planVerdict (plan Polygons square (8 ∷ []) (1 ∷ []))) (planHalfReply (plan Polygons square (8 ∷ []) (1 ∷ [])) doubledMiddle) ≡ At Outside
 unfolding orientation onSegment edgesFrom edgesOf allEdges edgeWinding onEdge anyOf countOf total partsOf cornersOf ringsOf tooMany uneven planVerdict allInRange planInRange planHalfReply doubledEdges halfReply
 doubled-outside = refl
 
@@ -96,9 +99,65 @@ nothing-refused f meets wrong =
     at-refused (w .0) Uneven (sym (w .1) ∙ meets Polygons square (7 ∷ []) (1 ∷ []) middle ∙ torn-refused _)
 
 -- one rule for both grids: P10 parts them
-pub one-rule-for-both : (f g : Engine) → Meets f → MeetsDoubled g → ((kind : Kind) (coordinates : List ℤ) (lengths counts : List ℕ) → f kind coordinates lengths counts middle ≡ g kind coordinates lengths counts (record { x = pos 10; y = pos 10 })) → ⊥
+pub one-rule-for-both : (f g : Engine) → Meets f → MeetsDoubled g → ((kind : Kind) (coordinates : List ℤ) (lengths counts : List ℕ) → f kind coordinates lengths counts middle ≡ g kind coordinates lengths counts doubledMiddle) → ⊥
 one-rule-for-both f g meets doubled same =
-    apart (sym middle-inside ∙ sym (meets Polygons square (8 ∷ []) (1 ∷ []) middle) ∙ same Polygons square (8 ∷ []) (1 ∷ []) ∙ doubled Polygons square (8 ∷ []) (1 ∷ []) (record { x = pos 10; y = pos 10 }) ∙ doubled-outside)
+    apart (sym middle-inside ∙ sym (meets Polygons square (8 ∷ []) (1 ∷ []) middle) ∙ same Polygons square (8 ∷ []) (1 ∷ []) ∙ doubled Polygons square (8 ∷ []) (1 ∷ []) doubledMiddle ∙ doubled-outside)
+
+-- ---- a square with two square holes, one within the other, at a point on the lesser one's boundary: which of them comes first decides
+abbrev pub lesserFirst : List ℤ
+lesserFirst = pos 0 ∷ pos 0 ∷ pos 10 ∷ pos 0 ∷ pos 10 ∷ pos 10 ∷ pos 0 ∷ pos 10 ∷ pos 4 ∷ pos 4 ∷ pos 6 ∷ pos 4 ∷ pos 6 ∷ pos 6 ∷ pos 4 ∷ pos 6 ∷ pos 3 ∷ pos 3 ∷ pos 7 ∷ pos 3 ∷ pos 7 ∷ pos 7 ∷ pos 3 ∷ pos 7 ∷ []
+
+abbrev pub greaterFirst : List ℤ
+greaterFirst = pos 0 ∷ pos 0 ∷ pos 10 ∷ pos 0 ∷ pos 10 ∷ pos 10 ∷ pos 0 ∷ pos 10 ∷ pos 3 ∷ pos 3 ∷ pos 7 ∷ pos 3 ∷ pos 7 ∷ pos 7 ∷ pos 3 ∷ pos 7 ∷ pos 4 ∷ pos 4 ∷ pos 6 ∷ pos 4 ∷ pos 6 ∷ pos 6 ∷ pos 4 ∷ pos 6 ∷ []
+
+abbrev pub rim : Point
+rim = record { x = pos 4; y = pos 5 }
+
+lesser-decides : answer (planVerdict (plan Polygons lesserFirst (4 ∷ 4 ∷ 4 ∷ []) (3 ∷ []))) (planReply (plan Polygons lesserFirst (4 ∷ 4 ∷ 4 ∷ []) (3 ∷ [])) rim) ≡ At OnBoundary
+unfolding orientation onSegment edgesFrom edgesOf edgeWinding winding onEdge anyOf sumOf total partsOf cornersOf ringsOf polygonsOf tooMany uneven planVerdict allInRange planInRange planReply ringReply holesReply polygonReply listReply
+lesser-decides = refl
+
+greater-decides : answer (planVerdict (plan Polygons greaterFirst (4 ∷ 4 ∷ 4 ∷ []) (3 ∷ []))) (planReply (plan Polygons greaterFirst (4 ∷ 4 ∷ 4 ∷ []) (3 ∷ [])) rim) ≡ At Outside
+unfolding orientation onSegment edgesFrom edgesOf edgeWinding winding onEdge anyOf sumOf total partsOf cornersOf ringsOf polygonsOf tooMany uneven planVerdict allInRange planInRange planReply ringReply holesReply polygonReply listReply
+greater-decides = refl
+
+isOutsideReply : Reply → Bool
+isOutsideReply (At Outside) = true
+isOutsideReply (At Inside) = false
+isOutsideReply (At OnBoundary) = false
+isOutsideReply (Refused refusal) = false
+
+not-outside : At Outside ≡ At OnBoundary → ⊥
+unfolding isOutsideReply
+not-outside e = subst T (ap isOutsideReply e) tt
+
+-- holes read backwards, a later hole that overrides the first that decides, or holes taken as a set: each of these answers the one
+-- order as the rule answers the other
+pub hole-order-ignored : (f : Engine) → Meets f → f Polygons lesserFirst (4 ∷ 4 ∷ 4 ∷ []) (3 ∷ []) rim ≡ f Polygons greaterFirst (4 ∷ 4 ∷ 4 ∷ []) (3 ∷ []) rim → ⊥
+hole-order-ignored f meets same =
+    not-outside (sym greater-decides ∙ sym (meets Polygons greaterFirst (4 ∷ 4 ∷ 4 ∷ []) (3 ∷ []) rim) ∙ sym same ∙ meets Polygons lesserFirst (4 ∷ 4 ∷ 4 ∷ []) (3 ∷ []) rim ∙ lesser-decides)
+
+pub holes-backwards : (f : Engine) → Meets f → f Polygons lesserFirst (4 ∷ 4 ∷ 4 ∷ []) (3 ∷ []) rim ≡ answer (planVerdict (plan Polygons greaterFirst (4 ∷ 4 ∷ 4 ∷ []) (3 ∷ []))) (planReply (plan Polygons greaterFirst (4 ∷ 4 ∷ 4 ∷ []) (3 ∷ [])) rim) → ⊥
+holes-backwards f meets wrong = hole-order-ignored f meets (wrong ∙ sym (meets Polygons greaterFirst (4 ∷ 4 ∷ 4 ∷ []) (3 ∷ []) rim))
+
+-- ---- outer rings alone on the half-grid: a square with one hole at the hole's middle, and the same square without it
+abbrev pub outerRing : List ℤ
+outerRing = pos 0 ∷ pos 0 ∷ pos 10 ∷ pos 0 ∷ pos 10 ∷ pos 10 ∷ pos 0 ∷ pos 10 ∷ []
+
+abbrev pub withHole : List ℤ
+withHole = pos 0 ∷ pos 0 ∷ pos 10 ∷ pos 0 ∷ pos 10 ∷ pos 10 ∷ pos 0 ∷ pos 10 ∷ pos 4 ∷ pos 4 ∷ pos 6 ∷ pos 4 ∷ pos 6 ∷ pos 6 ∷ pos 4 ∷ pos 6 ∷ []
+
+outer-inside : answer (planVerdict (plan Polygons outerRing (4 ∷ []) (1 ∷ []))) (planHalfReply (plan Polygons outerRing (4 ∷ []) (1 ∷ [])) doubledMiddle) ≡ At Inside
+unfolding orientation onSegment edgesFrom edgesOf allEdges edgeWinding onEdge anyOf countOf total partsOf cornersOf ringsOf tooMany uneven planVerdict allInRange planInRange planHalfReply doubledEdges halfReply
+outer-inside = refl
+
+hole-outside : answer (planVerdict (plan Polygons withHole (4 ∷ 4 ∷ []) (2 ∷ []))) (planHalfReply (plan Polygons withHole (4 ∷ 4 ∷ []) (2 ∷ [])) doubledMiddle) ≡ At Outside
+unfolding orientation onSegment edgesFrom edgesOf allEdges edgeWinding onEdge anyOf countOf total partsOf cornersOf ringsOf tooMany uneven planVerdict allInRange planInRange planHalfReply doubledEdges halfReply
+hole-outside = refl
+
+pub outers-alone : (f : Engine) → MeetsDoubled f → f Polygons withHole (4 ∷ 4 ∷ []) (2 ∷ []) doubledMiddle ≡ f Polygons outerRing (4 ∷ []) (1 ∷ []) doubledMiddle → ⊥
+outers-alone f meets same =
+    apart (sym outer-inside ∙ sym (meets Polygons outerRing (4 ∷ []) (1 ∷ []) doubledMiddle) ∙ sym same ∙ meets Polygons withHole (4 ∷ 4 ∷ []) (2 ∷ []) doubledMiddle ∙ hole-outside)
 
 -- ---- the calls over prepared tables: the square's tables are sound, and the answer at its middle is inside, not 15 and not outside
 abbrev pub squarePlan : Plan
