@@ -6,6 +6,7 @@ ghost use Rattle.rules.specs.Replies.{byHole, stronger as strongerOf};
 ghost use Rattle.rings.specs.Places.{isOutside, isInside, isBoundary, flippedBy};
 use rules::Location;
 
+/// Whether the place is outside.
 pub fn is_outside(location: Location) -> bool
     ensures { λ r. ⌜ r ≡ isOutside location ⌝ }
 {
@@ -16,6 +17,7 @@ pub fn is_outside(location: Location) -> bool
     }
 }
 
+/// Whether the place is inside.
 pub fn is_inside(location: Location) -> bool
     ensures { λ r. ⌜ r ≡ isInside location ⌝ }
 {
@@ -26,6 +28,7 @@ pub fn is_inside(location: Location) -> bool
     }
 }
 
+/// Whether the place is on the boundary.
 pub fn is_boundary(location: Location) -> bool
     ensures { λ r. ⌜ r ≡ isBoundary location ⌝ }
 {

@@ -34,6 +34,15 @@ clockwise : onEach (reverse diamond) (at (pos 5) (pos 0)) ≡ negsuc 0 ∷ negsu
 unfolding orientation edgesFrom edgesOf edgeWinding sumOf windingOn
 clockwise = refl
 
+-- a ray from (0, 0) that touches a corner of a triangle and goes by counts nothing: a triangle below the ray's line, and one above it
+touched : onEach (at (pos 1) (negsuc 0) ∷ at (pos 3) (negsuc 0) ∷ at (pos 2) (pos 0) ∷ []) (at (pos 0) (pos 0)) ≡ pos 0 ∷ pos 0 ∷ pos 0 ∷ pos 0 ∷ []
+unfolding orientation edgesFrom edgesOf edgeWinding sumOf windingOn
+touched = refl
+
+touched-from-above : onEach (at (pos 2) (pos 0) ∷ at (pos 3) (pos 1) ∷ at (pos 1) (pos 1) ∷ []) (at (pos 0) (pos 0)) ≡ pos 0 ∷ pos 0 ∷ pos 0 ∷ pos 0 ∷ []
+unfolding orientation edgesFrom edgesOf edgeWinding sumOf windingOn
+touched-from-above = refl
+
 -- an edge right of (0, 0), left of it, above it and below it, each counter-clockwise round it: one ray alone counts it
 abbrev countedOn : ℤ → ℤ → ℤ → ℤ → List ℤ
 countedOn ax ay bx by = map (λ ray. windingOn ray (at ax ay) (at bx by) (at (pos 0) (pos 0))) (Right ∷ Left ∷ Up ∷ Down ∷ [])

@@ -46,7 +46,8 @@ pub enum List {
 }
 
 impl Reader {
-    pub fn new() -> Reader {
+    /// The reader before the input's first line.
+    pub(crate) fn new() -> Reader {
         Reader {
             at: 0,
             held: 0,
@@ -55,7 +56,7 @@ impl Reader {
     }
 
     /// The reader at the start of a line.
-    pub fn on_line(self) -> Reader {
+    pub(crate) fn on_line(self) -> Reader {
         Reader {
             at: self.at,
             held: self.held,
@@ -87,7 +88,7 @@ fn filled(buffer: &mut [u8], reader: Reader) -> Reader {
 }
 
 /// The next byte of the input. The buffer holds at most its length, which is tested here, so that no caller has to know it.
-pub fn next_byte(buffer: &mut [u8], reader: Reader) -> Next {
+pub(crate) fn next_byte(buffer: &mut [u8], reader: Reader) -> Next {
     let ready = filled(buffer, reader);
     let at = ready.at;
     if at >= ready.held {
@@ -177,7 +178,7 @@ fn read_negative(buffer: &mut [u8], reader: Reader) -> Number {
 }
 
 /// The next number of the line.
-pub fn read_number(buffer: &mut [u8], reader: Reader) -> Number {
+pub(crate) fn read_number(buffer: &mut [u8], reader: Reader) -> Number {
     if reader.line_over {
         return Number::Malformed;
     }
@@ -208,7 +209,7 @@ fn as_count(value: i64, most: usize, reader: Reader) -> Count
 }
 
 /// The next number of the line, which is a count from 0 to most.
-pub fn read_count(buffer: &mut [u8], reader: Reader, most: usize) -> Count
+pub(crate) fn read_count(buffer: &mut [u8], reader: Reader, most: usize) -> Count
     ensures { λ r. ⌜ Within most r ⌝ }
 {
     let Number::Is(value, after) = read_number(buffer, reader) else {
@@ -218,7 +219,7 @@ pub fn read_count(buffer: &mut [u8], reader: Reader, most: usize) -> Count
 }
 
 /// Numbers of the line, as many as the list takes.
-pub fn read_numbers(buffer: &mut [u8], reader: Reader, list: &mut [i64]) -> List {
+pub(crate) fn read_numbers(buffer: &mut [u8], reader: Reader, list: &mut [i64]) -> List {
     let mut at = reader;
     let mut i = 0;
     while i < list.len() {
@@ -233,7 +234,12 @@ pub fn read_numbers(buffer: &mut [u8], reader: Reader, list: &mut [i64]) -> List
 }
 
 /// Counts of the line from 0 to most, as many as the list takes.
-pub fn read_counts(buffer: &mut [u8], reader: Reader, most: usize, list: &mut [usize]) -> List {
+pub(crate) fn read_counts(
+    buffer: &mut [u8],
+    reader: Reader,
+    most: usize,
+    list: &mut [usize],
+) -> List {
     let mut at = reader;
     let mut i = 0;
     while i < list.len() {

@@ -18,7 +18,8 @@ fn one_more(n: u64) -> u64 {
 }
 
 impl Tally {
-    pub fn new() -> Tally {
+    /// Nothing counted yet.
+    pub(crate) fn new() -> Tally {
         Tally {
             plans: 0,
             replies: 0,
@@ -28,7 +29,7 @@ impl Tally {
     }
 
     /// One plan more.
-    pub fn with_plan(self) -> Tally {
+    pub(crate) fn with_plan(self) -> Tally {
         Tally {
             plans: one_more(self.plans),
             replies: self.replies,
@@ -58,7 +59,7 @@ impl Tally {
     }
 
     /// One reply more, of the query of this number, counted from 1; the first that differ are named.
-    pub fn with_reply(self, agrees: bool, query: u64) -> Tally {
+    pub(crate) fn with_reply(self, agrees: bool, query: u64) -> Tally {
         if agrees {
             return self.agreed();
         }
@@ -86,14 +87,14 @@ fn write_differs(line: u64, query: u64) {
 }
 
 /// The line at which the input breaks the format: the one after the plans passed.
-pub fn write_malformed(tally: Tally) {
+pub(crate) fn write_malformed(tally: Tally) {
     write(b"malformed ");
     write_number(one_more(tally.plans));
     write(b"\n");
 }
 
 /// The counts of a whole input.
-pub fn write_counts(tally: Tally) {
+pub(crate) fn write_counts(tally: Tally) {
     write(b"plans ");
     write_number(tally.plans);
     write(b"\nreplies ");

@@ -218,7 +218,7 @@ fn read_closing(buffer: &mut [u8], reader: Reader, tally: Tally) -> Line {
 }
 
 /// The next line.
-pub fn read_line(buffer: &mut [u8], reader: Reader, tally: Tally) -> Line {
+pub(crate) fn read_line(buffer: &mut [u8], reader: Reader, tally: Tally) -> Line {
     let Number::Is(kind, after) = read_number(buffer, reader.on_line()) else {
         return Line::Malformed;
     };
