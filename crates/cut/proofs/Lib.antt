@@ -1,0 +1,3 @@
+pub mod Shuffles
+pub mod Partings
+pub mod Selectings
