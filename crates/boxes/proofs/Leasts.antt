@@ -3,7 +3,7 @@
 use mathlib.Core.Path.{_≡_, refl, sym, _∙_, subst}
 use mathlib.Core.Bool.{true, _&&_}
 use mathlib.Core.Logic.{_⊎_, inl, inr}
-use mathlib.Core.List.{List}
+use mathlib.Core.List.{List, [], _∷_}
 use Prim.Native.Nat.{ℕ, zero, suc, _+_, _≤_, _<_, _^_}
 use native.Mathlib.Decide.{ℕ-discrete}
 use native.Mathlib.Omega.{arith}
@@ -19,8 +19,9 @@ use Rattle.geom.specs.Range.{within}
 use Rattle.geom.proofs.Boxes.{union-left, union-right, union-least, rect-holds-first, rect-holds-second, rect-proper, holds-itself}
 use Rattle.geom.proofs.Range.{near}
 use Rattle.boxes.specs.Rings.{edgeOf, nextCorner, RingEnds, CornersNear}
-use Rattle.boxes.specs.Boxes.{edgeBox, boxOf, Names, Reached, SmallestRound}
+use Rattle.boxes.specs.Boxes.{edgeBox, boxOf, NearRect, Names, Reached, SmallestRound}
 use Rattle.boxes.proofs.Rings.{next-inside}
+use Rattle.boxes.proofs.Unions.{box-one}
 
 module _ (corners : List ℤ) (rings edges : List ℕ) where
   -- what each edge's box holds, the part's box holds
@@ -98,12 +99,6 @@ module _ (corners : List ℤ) (rings edges : List ℕ) where
   }
 
 -- ---- boxes of corners in range
-pub record NearRect (r : Rect) : Type 0 where
-  pub min-x : natAbs (r .min .x) ≤ 2 ^ 40
-  pub min-y : natAbs (r .min .y) ≤ 2 ^ 40
-  pub max-x : natAbs (r .max .x) ≤ 2 ^ 40
-  pub max-y : natAbs (r .max .y) ≤ 2 ^ 40
-
 near-x : (p : Point) → within (2 ^ 40) (p .x) && within (2 ^ 40) (p .y) ≡ true → natAbs (p .x) ≤ 2 ^ 40
 near-x p e = near (2 ^ 40) (p .x) (and-true (within (2 ^ 40) (p .x)) (within (2 ^ 40) (p .y)) e .0)
 
@@ -126,3 +121,6 @@ module _ (n count : ℕ) (corners : List ℤ) (rings : List ℕ) (C : CornersNea
         max-x = near-end (λ p. p .x) near-x edges f m N _ (S .max-x);
         max-y = near-end (λ p. p .y) near-y edges f m N _ (S .max-y);
       }
+
+  pub edge-near : (e : ℕ) → e < n → NearRect (edgeBox corners rings e)
+  edge-near e h = subst NearRect (box-one corners rings (e ∷ []) 0) (box-near (e ∷ []) 0 1 (record { inside = omega arith; each = λ k a b. let z : k ≡ 0 = omega arith in rw z h }) (omega arith))

@@ -3,8 +3,8 @@ use mathlib.Core.Path.{_≡_}
 use mathlib.Core.Bool.{true}
 use mathlib.Core.Logic.{_⊎_}
 use mathlib.Core.List.{List, [], _∷_}
-use Prim.Native.Nat.{ℕ, zero, suc, _+_, _≤_, _<_}
-use lib.IntN.{ℤ, pos}
+use Prim.Native.Nat.{ℕ, zero, suc, _+_, _^_, _≤_, _<_}
+use lib.IntN.{ℤ, pos, natAbs}
 use lib.ListN.{length, getD}
 use Rattle.geom.specs.declared.Point.{Point}
 use Rattle.geom.specs.declared.Rect.{Rect}
@@ -36,6 +36,13 @@ rowOf r = r .min .x ∷ r .min .y ∷ r .max .x ∷ r .max .y ∷ []
 pub record Names (n : ℕ) (edges : List ℕ) (f m : ℕ) : Type 0 where
   pub inside : f + m ≤ length edges
   pub each : (k : ℕ) → f ≤ k → k < f + m → getD edges k 0 < n
+
+-- the ends of the box are coordinates in range
+pub record NearRect (r : Rect) : Type 0 where
+  pub min-x : natAbs (r .min .x) ≤ 2 ^ 40
+  pub min-y : natAbs (r .min .y) ≤ 2 ^ 40
+  pub max-x : natAbs (r .max .x) ≤ 2 ^ 40
+  pub max-y : natAbs (r .max .y) ≤ 2 ^ 40
 
 -- ---- what `boxOf` says in plain words
 

@@ -1,7 +1,7 @@
--- `cut::select` meets its contract: each round halves the values that a number of the window can have (`Selectings`).
+-- `cut::selection::select` meets its contract: each round halves the values that a number of the window can have (`Selectings`).
 use borrow.Author.Needs.{needs}
-use Rattle.cut.proofs.select.Statement.{statement}
-use Rattle.cut.proofs.select.Tie as tie
+use Rattle.cut.proofs.selection.select.Statement.{statement}
+use Rattle.cut.proofs.selection.select.Tie as tie
 use mathlib.Core.Path.{refl}
 use mathlib.Core.Logic.{⊎-elim}
 use Prim.Native.Nat.{_+_, _-_, _/_, _≤_, _<_}

@@ -1,7 +1,7 @@
--- `cut::span_of` meets its contract: the span of what was read so far.
+-- `cut::selection::span_of` meets its contract: the span of what was read so far.
 use borrow.Author.Needs.{needs}
-use Rattle.cut.proofs.span_of.Statement.{statement}
-use Rattle.cut.proofs.span_of.Tie as tie
+use Rattle.cut.proofs.selection.span_of.Statement.{statement}
+use Rattle.cut.proofs.selection.span_of.Tie as tie
 use mathlib.Core.Path.{_≡_}
 use Prim.Native.Nat.{_-_, _≤_, _<_}
 use native.Mathlib.Omega.{arith}

@@ -1,7 +1,7 @@
--- `cut::swap` meets its contract.
+-- `cut::selection::swap` meets its contract.
 use borrow.Author.Needs.{needs}
-use Rattle.cut.proofs.swap.Statement.{statement}
-use Rattle.cut.proofs.swap.Tie as tie
+use Rattle.cut.proofs.selection.swap.Statement.{statement}
+use Rattle.cut.proofs.selection.swap.Tie as tie
 use mathlib.Core.Path.{refl}
 use Rattle.cut.specs.Shuffle.{swapped}
 
