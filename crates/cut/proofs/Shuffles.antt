@@ -1,11 +1,12 @@
--- The laws of `Shuffled`: length, frame, what holds of each place of the window, a chain of two, a wider window. Assumes nothing.
-use mathlib.Core.Path.{_≡_, refl, _∙_}
+-- The laws of `Shuffled`: length, frame, what holds of each place of the window, a chain of two, a wider window,
+-- and back. Assumes nothing.
+use mathlib.Core.Path.{_≡_, refl, _∙_, subst}
 use mathlib.Core.List.{List}
 use Prim.Native.Nat.{ℕ, _≤_, _<_}
 use native.Mathlib.Decide.{ℕ-discrete}
 use native.Mathlib.Omega.{arith}
 use lib.ListN.{length, getD, set, length-set}
-use lib.Seq.{getD-set-same, getD-set-other}
+use lib.Seq.{getD-set-same, getD-set-other, ext-getD}
 use Rattle.cut.specs.Shuffle.{swapped, Shuffled}
 use Rattle.cut.specs.Shuffle.Shuffled.{same, more}
 
@@ -74,3 +75,20 @@ module _ {lo hi : ℕ} {xs : List ℕ} where
   shuffled-wider lo′ hi′ l h w same = same
   shuffled-wider lo′ hi′ l h w (more {ys} i j li ih lj jh hl s) =
       more {ys = ys} i j (omega arith) (omega arith) (omega arith) (omega arith) (omega (arith, shuffled-length s)) (shuffled-wider lo′ hi′ l h w s)
+
+-- ---- and back again
+swapped-twice : (i j : ℕ) (xs : List ℕ) → i < length xs → j < length xs → swapped i j (swapped i j xs) ≡ xs
+swapped-twice i j xs hi hj = ext-getD 0 (swapped i j (swapped i j xs)) xs (length-swapped i j (swapped i j xs) ∙ length-swapped i j xs) (λ k l. go k (ℕ-discrete k j) (ℕ-discrete k i))
+  where
+    long : length (swapped i j xs) ≡ length xs
+    long = length-swapped i j xs
+
+    go : (k : ℕ) → Dec (k ≡ j) → Dec (k ≡ i) → getD (swapped i j (swapped i j xs)) k 0 ≡ getD xs k 0
+    go k (yes e) d = rw e (swapped-second i j (swapped i j xs) (omega (arith, long)) ∙ swapped-first i j xs hi hj)
+    go k (no n) (yes e) = rw e (swapped-first i j (swapped i j xs) (omega (arith, long)) (omega (arith, long)) ∙ swapped-second i j xs hj)
+    go k (no n) (no d) = swapped-other i j (swapped i j xs) k d n ∙ swapped-other i j xs k d n
+
+pub shuffled-sym : {lo hi : ℕ} {xs ys : List ℕ} → Shuffled lo hi xs ys → Shuffled lo hi ys xs
+shuffled-sym same = same
+shuffled-sym {lo} {hi} {xs} (more {ys = ys} i j li ih lj jh hl s) =
+    shuffled-trans (subst (Shuffled lo hi (swapped i j ys)) (swapped-twice i j ys (omega arith) (omega arith)) (more {ys = swapped i j ys} i j li ih lj jh (omega (arith, length-swapped i j ys)) same)) (shuffled-sym s)
