@@ -6,3 +6,5 @@ pub mod Shaping
 pub mod Reordered
 pub mod Ordering
 pub mod Building
+pub mod Once
+pub mod Soundness

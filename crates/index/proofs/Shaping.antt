@@ -65,14 +65,14 @@ eight (suc (suc (suc zero))) h = omega arith
 eight (suc (suc (suc (suc k)))) h = absurd (omega arith)
 
 -- a node that is cut stands below place 17
-shallow : (j m : ℕ) → 8 < m → m ≤ 2 ^ (20 - j) → j < 17
+pub shallow : (j m : ℕ) → 8 < m → m ≤ 2 ^ (20 - j) → j < 17
 shallow j m big h = go (decLt j 17)
   where
     go : Dec (j < 17) → j < 17
     go (yes l) = l
     go (no l) = absurd (omega (arith, eight (20 - j) (omega arith)))
 
-halved : (j m : ℕ) → j < 17 → m ≤ 2 ^ (20 - j) → m - m / 2 ≤ 2 ^ (20 - (j + 1))
+pub halved : (j m : ℕ) → j < 17 → m ≤ 2 ^ (20 - j) → m - m / 2 ≤ 2 ^ (20 - (j + 1))
 halved j m l h =
     let e : 20 - j ≡ suc (20 - (j + 1)) = omega arith in
     let w : 2 ^ (20 - j) ≡ 2 ^ (20 - (j + 1)) + 2 ^ (20 - (j + 1)) = ap (λ (k : ℕ). 2 ^ k) e ∙ two-pow-succ (20 - (j + 1)) in

@@ -70,7 +70,7 @@ cut-node-requires c κs =
     let a = s .args in
     let l = c .before .before .before .before .before .before .loop in
     let h = c .before .before .before .before .before .loop-test .taken in
-    let big = c .before .before .before .if1 .taken in
+    let big : 8 < countAt (l .parts) (getD (l .waiting) (l .top - 1) 0) = omega (arith, c .before .before .before .if1 .taken) in
     let inside = turn-inside (a .n) (a .corners .now) (a .rings .now) _ _ _ (l .boxes) (l .parts) (l .edges) (l .waiting) (l .top) (l .free) (l .inv) h in
     let room = turn-room (a .n) (a .corners .now) (a .rings .now) _ _ _ (l .boxes) (l .parts) (l .edges) (l .waiting) (l .top) (l .free) (l .inv) h big in (
       s .pre .0,
@@ -94,28 +94,28 @@ slice-aggregate-push c = sym (c .before .before .before .before .before .before 
 
 add-push : tie.Need-add-push Inv-loop μ-loop
 add-push c = let a = c .before .before .before .before .before .before .before .before .before .before .before .before .before .before .before .before .before .before .before .before .before .before .before .before .before .before .before .args in let l = c .before .before .before .before .before .before .before .before .before .before .before .before .loop in
-    omega (arith, turn-room (a .n) (a .corners .now) (a .rings .now) _ _ _ (l .boxes) (l .parts) (l .edges) (l .waiting) (l .top) (l .free) (l .inv) (c .before .before .before .before .before .before .before .before .before .before .before .loop-test .taken) (c .before .before .before .before .before .before .before .before .before .if1 .taken) .0, node-count-most (a .n) (c .before .before .before .before .before .before .before .before .before .before .before .before .before .before .before .before .before .before .before .before .before .before .before .before .before .before .before .pre .0 .few))
+    omega (arith, turn-room (a .n) (a .corners .now) (a .rings .now) _ _ _ (l .boxes) (l .parts) (l .edges) (l .waiting) (l .top) (l .free) (l .inv) (c .before .before .before .before .before .before .before .before .before .before .before .loop-test .taken) (omega (arith, c .before .before .before .before .before .before .before .before .before .if1 .taken)) .0, node-count-most (a .n) (c .before .before .before .before .before .before .before .before .before .before .before .before .before .before .before .before .before .before .before .before .before .before .before .before .before .before .before .pre .0 .few))
 
 push-requires : tie.Need-push-requires Inv-loop μ-loop
 push-requires c κs = let a = c .before .before .before .before .before .before .before .before .before .before .before .before .before .before .before .before .before .before .before .before .before .before .before .before .before .before .before .args in let l = c .before .before .before .before .before .before .before .before .before .before .before .before .loop in
-    omega (arith, turn-room (a .n) (a .corners .now) (a .rings .now) _ _ _ (l .boxes) (l .parts) (l .edges) (l .waiting) (l .top) (l .free) (l .inv) (c .before .before .before .before .before .before .before .before .before .before .before .loop-test .taken) (c .before .before .before .before .before .before .before .before .before .if1 .taken) .1, l .inv .shaping .stack, c .before .before .before .before .before .before .before .before .before .before .before .loop-test .taken)
+    omega (arith, turn-room (a .n) (a .corners .now) (a .rings .now) _ _ _ (l .boxes) (l .parts) (l .edges) (l .waiting) (l .top) (l .free) (l .inv) (c .before .before .before .before .before .before .before .before .before .before .before .loop-test .taken) (omega (arith, c .before .before .before .before .before .before .before .before .before .if1 .taken)) .1, l .inv .shaping .stack, c .before .before .before .before .before .before .before .before .before .before .before .loop-test .taken)
 
 add-top : tie.Need-add-top Inv-loop μ-loop
 add-top c = let a = c .before .before .before .before .before .before .before .before .before .before .before .before .before .before .before .before .before .before .before .before .before .before .before .before .before .before .before .before .before .args in let l = c .before .before .before .before .before .before .before .before .before .before .before .before .before .before .loop in omega (arith, l .inv .shaping .shallow-stack)
 
 add-free : tie.Need-add-free Inv-loop μ-loop
 add-free c = let a = c .before .before .before .before .before .before .before .before .before .before .before .before .before .before .before .before .before .before .before .before .before .before .before .before .before .before .before .before .before .args in let l = c .before .before .before .before .before .before .before .before .before .before .before .before .before .before .loop in
-    omega (arith, turn-room (a .n) (a .corners .now) (a .rings .now) _ _ _ (l .boxes) (l .parts) (l .edges) (l .waiting) (l .top) (l .free) (l .inv) (c .before .before .before .before .before .before .before .before .before .before .before .before .before .loop-test .taken) (c .before .before .before .before .before .before .before .before .before .before .before .if1 .taken) .0, node-count-most (a .n) (c .before .before .before .before .before .before .before .before .before .before .before .before .before .before .before .before .before .before .before .before .before .before .before .before .before .before .before .before .before .pre .0 .few))
+    omega (arith, turn-room (a .n) (a .corners .now) (a .rings .now) _ _ _ (l .boxes) (l .parts) (l .edges) (l .waiting) (l .top) (l .free) (l .inv) (c .before .before .before .before .before .before .before .before .before .before .before .before .before .loop-test .taken) (omega (arith, c .before .before .before .before .before .before .before .before .before .before .before .if1 .taken)) .0, node-count-most (a .n) (c .before .before .before .before .before .before .before .before .before .before .before .before .before .before .before .before .before .before .before .before .before .before .before .before .before .before .before .before .before .pre .0 .few))
 
 loop-less : tie.Need-loop-less Inv-loop μ-loop
 loop-less c = let a = c .before .before .before .before .before .before .before .before .before .before .before .before .before .before .before .before .before .before .before .before .before .before .before .before .before .before .before .before .before .args in let l = c .before .before .before .before .before .before .before .before .before .before .before .before .before .before .loop in
-    omega (arith, turn-room (a .n) (a .corners .now) (a .rings .now) _ _ _ (l .boxes) (l .parts) (l .edges) (l .waiting) (l .top) (l .free) (l .inv) (c .before .before .before .before .before .before .before .before .before .before .before .before .before .loop-test .taken) (c .before .before .before .before .before .before .before .before .before .before .before .if1 .taken) .0, c .before .before .before .before .before .before .before .before .before .before .before .before .before .loop-test .taken)
+    omega (arith, turn-room (a .n) (a .corners .now) (a .rings .now) _ _ _ (l .boxes) (l .parts) (l .edges) (l .waiting) (l .top) (l .free) (l .inv) (c .before .before .before .before .before .before .before .before .before .before .before .before .before .loop-test .taken) (omega (arith, c .before .before .before .before .before .before .before .before .before .before .before .if1 .taken)) .0, c .before .before .before .before .before .before .before .before .before .before .before .before .before .loop-test .taken)
 
 loop-again : tie.Need-loop-again Inv-loop μ-loop
 loop-again c =
     let a = c .before .before .before .before .before .before .before .before .before .before .before .before .before .before .before .before .before .before .before .before .before .before .before .before .before .before .before .before .before .args in
     let l = c .before .before .before .before .before .before .before .before .before .before .before .before .before .before .loop in
-    building-cut (a .n) (a .corners .now) (a .rings .now) _ _ _ (l .boxes) (l .parts) (l .edges) (l .waiting) (l .top) (l .free) (l .inv) (c .before .before .before .before .before .before .before .before .before .before .before .before .before .loop-test .taken) (c .before .before .before .before .before .before .before .before .before .before .before .if1 .taken) _ _ _ _ (c .before .before .before .before .before .before .before .cut-node .ensures) (c .before .push .ensures)
+    building-cut (a .n) (a .corners .now) (a .rings .now) _ _ _ (l .boxes) (l .parts) (l .edges) (l .waiting) (l .top) (l .free) (l .inv) (c .before .before .before .before .before .before .before .before .before .before .before .before .before .loop-test .taken) (omega (arith, c .before .before .before .before .before .before .before .before .before .before .before .if1 .taken)) _ _ _ _ (c .before .before .before .before .before .before .before .cut-node .ensures) (c .before .push .ensures)
 
 loop-less-2 : tie.Need-loop-less-2 Inv-loop μ-loop
 loop-less-2 c = omega (arith, c .before .before .loop-test .taken)

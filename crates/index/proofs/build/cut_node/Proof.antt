@@ -55,7 +55,7 @@ part-box-requires-2 c κs =
     let s = c .before .before .before .before .before .before .before .before .before .before .before .before .before .before in
     let f = firstAt (s .args .parts .now) (s .args .p) in
     let m = countAt (s .args .parts .now) (s .args .p) in
-    (s .pre .0 .reach, (s .pre .1 .0, names-shuffled (s .args .n) (s .args .edges .now) _ f m (f + m / 2) (m - m / 2) (s .pre .1 .1 .1 .1 .0) (c .before .before .before .before .before .cut-part .ensures .moved) (omega arith) (omega arith)))
+    (s .pre .0 .reach, (s .pre .1 .0, names-shuffled (s .args .n) (s .args .edges .now) _ f m (f + m / 2) _ (s .pre .1 .1 .1 .1 .0) (c .before .before .before .before .before .cut-part .ensures .moved) (omega arith) (omega arith)))
 
 add-put-children : tie.Need-add-put-children
 add-put-children c = let s = c .before .before .before .before .before .before .before .before .before .before .before .before .before .before .before .before .before in let room = s .pre .1 .1 .0 in omega (arith, s .good)
