@@ -47,8 +47,8 @@ fn packed(key: i64, e: usize) -> usize
     (key + 2199023255552) as usize * 1048576 + e
 }
 
-// Puts packed numbers for the edges of a part.
-fn pack(
+/// Puts packed numbers in the place of the edges of a part.
+pub fn pack(
     corners: &[i64],
     rings: &[usize],
     edges: &mut [usize],

@@ -1,15 +1,14 @@
 -- Where the nodes stand: how many there are below a node, and that the children of a cut node stand at later places of the table.
 -- Assumes nothing.
-use mathlib.Core.Path.{_≡_, refl, sym, ap, _∙_}
+use mathlib.Core.Path.{_≡_, sym, ap, _∙_}
 use mathlib.Core.List.{List}
-use Prim.Native.Nat.{ℕ, _+_, _-_, _/_, _≤_, _<_}
+use Prim.Native.Nat.{ℕ, _+_, _-_, _≤_, _<_}
 use native.Mathlib.Decide.{ℕ-discrete, decLt}
 use native.Mathlib.Omega.{arith}
 use Rattle.rules.specs.Nodes.{nodeCount}
 use Rattle.rules.proofs.Nodes.{node-count-leaf, node-count-cut}
-use Rattle.index.specs.Parts.{firstAt, countAt, childAt, Halves, Laid}
+use Rattle.index.specs.Parts.{countAt, childAt, Halves, Laid}
 use Rattle.index.specs.Parts.Laid.{leaf, node}
-use Rattle.index.proofs.Counts.{node-count-some}
 
 module _ (parts : List (List ℕ)) where
   pub laid-grows : (c u w : ℕ) → Laid parts c u w → u ≤ w

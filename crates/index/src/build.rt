@@ -1,9 +1,8 @@
 // The tables of the hierarchy, built in one pass: a stack of the nodes that are still to be looked at, of which there are never more
 // than 18.
 ghost use mathlib.Core.Path.{_≡_};
-ghost use mathlib.Core.List.{[]};
 ghost use Prim.Native.Nat.{_+_, _<_, _≤_};
-ghost use lib.ListN.{length, getD, set};
+ghost use lib.ListN.{length, set};
 ghost use Rattle.rules.specs.Nodes.{nodeCount};
 ghost use Rattle.boxes.specs.Rings.{RingEnds, CornersNear};
 ghost use Rattle.boxes.specs.Boxes.{rectAt, Names, NearRect};

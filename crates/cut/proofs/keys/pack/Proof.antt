@@ -2,12 +2,11 @@
 use borrow.Author.Needs.{needs}
 use Rattle.cut.proofs.keys.pack.Statement.{statement}
 use Rattle.cut.proofs.keys.pack.Tie as tie
-use mathlib.Core.Path.{_≡_, sym, ap, _∙_}
+use mathlib.Core.Path.{_≡_, ap, _∙_}
 use native.Mathlib.Omega.{arith}
 use Prim.Native.Nat.{_+_, _-_, _≤_, _<_}
 use lib.ListN.{getD}
-use lib.IntN.{natAbs}
-use Rattle.boxes.specs.Boxes.{NearRect, edgeBox}
+use Rattle.boxes.specs.Boxes.{edgeBox}
 use Rattle.boxes.proofs.Rings.{searchable}
 use Rattle.boxes.proofs.Leasts.{edge-near}
 use Rattle.integers.proofs.Bits.{rd, rd-is}

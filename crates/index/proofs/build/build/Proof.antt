@@ -1,13 +1,13 @@
 -- `index::build::build` meets its contract: the state of the tables and the stack (`Building`).
 use Rattle.index.proofs.build.build.Statement.{statement}
 use Rattle.index.proofs.build.build.Tie as tie
-use mathlib.Core.Path.{_≡_, refl, sym, ap, _∙_}
+use mathlib.Core.Path.{_≡_, refl, sym, _∙_}
 use native.Mathlib.Omega.{arith}
 use Rattle.rules.specs.Nodes.{nodeCount}
 use Rattle.index.specs.Parts.{countAt}
 use Rattle.index.proofs.Building.{Building, building-start, building-leaf, building-cut, building-done, rebased, built-from, turn-inside, turn-room, turn-part, turn-names, turn-near}
 use mathlib.Core.List.{List}
-use Prim.Native.Nat.{ℕ, _+_, _-_, _*_, _≤_, _<_}
+use Prim.Native.Nat.{ℕ, _+_, _-_, _*_, _<_}
 use lib.ListN.{length, getD, replicate}
 use borrow.Author.Needs.{needs}
 use Rattle.index.proofs.Counts.{node-count-some, node-count-most}

@@ -2,9 +2,8 @@
 use borrow.Author.Needs.{needs}
 use Rattle.index.proofs.build.cut_node.Statement.{statement}
 use Rattle.index.proofs.build.cut_node.Tie as tie
-use mathlib.Core.Path.{_≡_, sym, ap, _∙_}
+use mathlib.Core.Path.{ap, _∙_}
 use native.Mathlib.Omega.{arith}
-use Rattle.cut.proofs.Shuffles.{shuffled-length, shuffled-each}
 use Prim.Native.Nat.{_+_, _-_, _/_}
 use Rattle.cut.specs.Keys.{axisOf}
 use Rattle.index.specs.Parts.{firstAt, countAt}
