@@ -10,7 +10,7 @@ pub enum Family {
     Doubling,
 }
 
-// The largest coordinate in range, and its powers of two: keys that each halving of the values parts by one place only.
+// The powers of two up to the largest coordinate in range: each halving of the values parts few of such keys from the rest.
 const POWERS: [i64; 41] = [
     1,
     2,

@@ -72,20 +72,20 @@ fn build_packed(
 }
 
 // Cuts a part of the packed keys again, as the builder did, and returns how many were read.
-fn cut_again(values: &mut [usize], f: usize, m: usize) -> usize {
-    if m < 9 {
+fn cut_again(values: &mut [usize], first: usize, size: usize) -> usize {
+    if size < 9 {
         return 0;
     }
-    if 1048576 < m {
+    if 1048576 < size {
         return 0;
     }
-    if 1048576 - m < f {
+    if 1048576 - size < first {
         return 0;
     }
-    if values.len() < f + m {
+    if values.len() < first + size {
         return 0;
     }
-    select(values, f, f + m / 2, f + m)
+    select(values, first, first + size / 2, first + size)
 }
 
 // The level that was noted for a node; the root's is 0. There are fewer than 18.
@@ -137,12 +137,12 @@ fn most_reads(
     }
     let mut p: usize = 0;
     while p < nodes {
-        let f = parts[p][0];
-        let m = parts[p][1];
+        let first = parts[p][0];
+        let size = parts[p][1];
         let child = parts[p][2];
         let level = level_of(levels, p);
         let place = level as usize;
-        reads[place] = sum(reads[place], cut_again(values, f, m));
+        reads[place] = sum(reads[place], cut_again(values, first, size));
         note(levels, child, level + 1);
         p += 1;
     }

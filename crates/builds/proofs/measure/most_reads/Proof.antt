@@ -22,23 +22,23 @@ returns-2 c = search needs
 loop-holds : tie.Need-loop-holds Inv-loop μ-loop
 loop-holds c = search needs
 
-mul-f : tie.Need-mul-f Inv-loop μ-loop
-mul-f c = search needs
+mul-first : tie.Need-mul-first Inv-loop μ-loop
+mul-first c = search needs
 
-index-1-f : tie.Need-index-1-f Inv-loop μ-loop
-index-1-f c = search needs
+index-1-first : tie.Need-index-1-first Inv-loop μ-loop
+index-1-first c = search needs
 
-index-2-f : tie.Need-index-2-f Inv-loop μ-loop
-index-2-f c = search needs
+index-2-first : tie.Need-index-2-first Inv-loop μ-loop
+index-2-first c = search needs
 
-mul-m : tie.Need-mul-m Inv-loop μ-loop
-mul-m c = search needs
+mul-size : tie.Need-mul-size Inv-loop μ-loop
+mul-size c = search needs
 
-index-1-m : tie.Need-index-1-m Inv-loop μ-loop
-index-1-m c = search needs
+index-1-size : tie.Need-index-1-size Inv-loop μ-loop
+index-1-size c = search needs
 
-index-2-m : tie.Need-index-2-m Inv-loop μ-loop
-index-2-m c = search needs
+index-2-size : tie.Need-index-2-size Inv-loop μ-loop
+index-2-size c = search needs
 
 mul-child : tie.Need-mul-child Inv-loop μ-loop
 mul-child c = search needs
@@ -110,12 +110,12 @@ most-reads-spec =
     returns
     returns-2
     loop-holds
-    mul-f
-    index-1-f
-    index-2-f
-    mul-m
-    index-1-m
-    index-2-m
+    mul-first
+    index-1-first
+    index-2-first
+    mul-size
+    index-1-size
+    index-2-size
     mul-child
     index-1-child
     index-2-child
