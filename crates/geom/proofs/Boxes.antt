@@ -7,12 +7,12 @@ use lib.IntN.{ℤ, pos, negℤ}
 use lib.Signed.{leZ, _≤ℤ_, _<ℤ_}
 use mir.Syntax.{w64}
 use mir.Val.{SFits}
-use Rattle.integers.proofs.Order.{zarith, ≤ℤ-trans, mag-parts}
-use Rattle.integers.proofs.Signs.{min-parts, max-parts, min-least, max-greatest, min-right, max-right}
+use Rattle.integers.proofs.Order.{zarith, ≤ℤ-refl, ≤ℤ-trans, ≤ℤ-antisym, mag-parts}
+use Rattle.integers.proofs.Signs.{min-parts, max-parts, min-least, max-greatest, min-right, max-right, min-assoc, max-assoc}
 use Rattle.integers.proofs.Tests.{and-true, le-true, le-false, true-le, not-both}
 use Rattle.geom.specs.declared.Point.{Point}
 use Rattle.geom.specs.declared.Rect.{Rect}
-use Rattle.geom.specs.Boxes.{lesserOf, greaterOf, emptyRect, unionOf, meets, holdsPoint, holdsRect}
+use Rattle.geom.specs.Boxes.{lesserOf, greaterOf, rectOf, emptyRect, unionOf, meets, holdsPoint, holdsRect}
 
 -- a point in a closed box, as four orders
 pub record Held (r : Rect) (p : Point) : Type 0 where
@@ -97,6 +97,48 @@ union-least r s t e f =
       below = max-greatest _ _ _ (b .below) (d .below);
     }) in
     λ i. low i && high i
+
+-- each of two boxes holds the other: they are one
+pub holds-both : (r s : Rect) → holdsRect r s ≡ true → holdsRect s r ≡ true → r ≡ s
+holds-both r s e f =
+    let h = and-true (holdsPoint r (s .min)) (holdsPoint r (s .max)) e in
+    let g = and-true (holdsPoint s (r .min)) (holdsPoint s (r .max)) f in
+    let a = held r (s .min) (h .0) in
+    let b = held r (s .max) (h .1) in
+    let c = held s (r .min) (g .0) in
+    let d = held s (r .max) (g .1) in
+    λ i. record {
+      min = record { x = ≤ℤ-antisym (r .min .x) (s .min .x) (a .right-of) (c .right-of) i; y = ≤ℤ-antisym (r .min .y) (s .min .y) (a .above) (c .above) i };
+      max = record { x = ≤ℤ-antisym (r .max .x) (s .max .x) (d .left-of) (b .left-of) i; y = ≤ℤ-antisym (r .max .y) (s .max .y) (d .below) (b .below) i };
+    }
+
+-- of three boxes the order of joining does not matter
+pub union-assoc : (r s t : Rect) → unionOf (unionOf r s) t ≡ unionOf r (unionOf s t)
+union-assoc r s t =
+    λ i. record {
+      min = record { x = min-assoc (r .min .x) (s .min .x) (t .min .x) i; y = min-assoc (r .min .y) (s .min .y) (t .min .y) i };
+      max = record { x = max-assoc (r .max .x) (s .max .x) (t .max .x) i; y = max-assoc (r .max .y) (s .max .y) (t .max .y) i };
+    }
+
+-- ---- the box of two corners
+pub rect-holds-first : (a b : Point) → holdsPoint (rectOf a b) a ≡ true
+rect-holds-first a b = holds (rectOf a b) a (record { right-of = min-parts (a .x) (b .x) .0; left-of = max-parts (a .x) (b .x) .0; above = min-parts (a .y) (b .y) .0; below = max-parts (a .y) (b .y) .0 })
+
+pub rect-holds-second : (a b : Point) → holdsPoint (rectOf a b) b ≡ true
+rect-holds-second a b = holds (rectOf a b) b (record { right-of = min-parts (a .x) (b .x) .1; left-of = max-parts (a .x) (b .x) .1; above = min-parts (a .y) (b .y) .1; below = max-parts (a .y) (b .y) .1 })
+
+pub rect-proper : (a b : Point) → Proper (rectOf a b)
+rect-proper a b =
+    record {
+      wide = ≤ℤ-trans _ (a .x) _ (min-parts (a .x) (b .x) .0) (max-parts (a .x) (b .x) .0);
+      high = ≤ℤ-trans _ (a .y) _ (min-parts (a .y) (b .y) .0) (max-parts (a .y) (b .y) .0);
+    }
+
+-- a box whose ends are in order holds itself
+pub holds-itself : (r : Rect) → Proper r → holdsRect r r ≡ true
+holds-itself r p =
+    λ i. holds r (r .min) (record { right-of = ≤ℤ-refl (r .min .x); left-of = p .wide; above = ≤ℤ-refl (r .min .y); below = p .high }) i
+    && holds r (r .max) (record { right-of = p .wide; left-of = ≤ℤ-refl (r .max .x); above = p .high; below = ≤ℤ-refl (r .max .y) }) i
 
 -- ---- the empty box
 pub empty-holds : (p : Point) → holdsPoint emptyRect p ≡ false

@@ -29,6 +29,9 @@ pub *ℤ-left-comm : (x y z : ℤ) → x *ℤ (y *ℤ z) ≡ y *ℤ (x *ℤ z)
 *ℤ-left-comm x y z = sym (*ℤ-assoc x y z) ∙ ap (λ t. t *ℤ z) (*ℤ-comm x y) ∙ *ℤ-assoc y x z
 
 -- ---- the order
+pub ≤ℤ-refl : (x : ℤ) → x ≤ℤ x
+≤ℤ-refl x = byℕ₂ (λ x y. x ≤ℤ x) (λ a b c d. simp diff (omega arith)) x x
+
 pub ≤ℤ-trans : (x y z : ℤ) → x ≤ℤ y → y ≤ℤ z → x ≤ℤ z
 ≤ℤ-trans = byℕ₃ (λ x y z. x ≤ℤ y → y ≤ℤ z → x ≤ℤ z) (λ a b c d e f. simp diff (omega arith))
 

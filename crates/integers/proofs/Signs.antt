@@ -1,6 +1,7 @@
 -- Laws of signs: of products, negations and differences; tests of order by the sign of a difference. Assumes nothing.
 use mathlib.Core.Path.{_≡_, refl, ap}
 use mathlib.Core.Bool.{Bool, true, false, not, cond, _||_}
+use mathlib.Core.Logic.{_⊎_, inl, inr}
 use Prim.Native.Nat.{ℕ, zero, suc, _+_, _*_}
 use native.Mathlib.Omega.{arith}
 use native.Mathlib.Nat.{zero-mul, mul-zero}
@@ -11,7 +12,7 @@ use Rattle.integers.specs.declared.Sign.{Sign}
 use Rattle.integers.specs.declared.Sign.the-variants.{Negative, Zero, Positive}
 use Rattle.integers.specs.Extremes.{minZ, maxZ}
 use Rattle.integers.specs.Signs.{signOf, isNegative, isZero, isPositive}
-use Rattle.integers.proofs.Order.{zarith, sub-parts}
+use Rattle.integers.proofs.Order.{zarith, sub-parts, ≤ℤ-trans, ≤ℤ-antisym}
 use Rattle.integers.proofs.Tests.{LeView, isLE, isGT, le-view, lt-true, lt-false, le-true, le-false}
 
 abbrev pub opposite : Sign → Sign
@@ -205,3 +206,39 @@ min-right x y h = go (le-view x y)
 
 pub max-right : (x y : ℤ) → x ≤ℤ y → maxZ x y ≡ y
 max-right x y h = ap (λ b. cond b y x) (le-true x y h)
+
+-- of three numbers the order of choosing does not matter
+pub min-assoc : (x y z : ℤ) → minZ (minZ x y) z ≡ minZ x (minZ y z)
+min-assoc x y z =
+    let a = min-parts x y in
+    let b = min-parts (minZ x y) z in
+    let c = min-parts y z in
+    let d = min-parts x (minZ y z) in
+    ≤ℤ-antisym _ _
+    (min-least x (minZ y z) _ (≤ℤ-trans _ (minZ x y) _ (b .0) (a .0)) (min-least y z _ (≤ℤ-trans _ (minZ x y) _ (b .0) (a .1)) (b .1)))
+    (min-least (minZ x y) z _ (min-least x y _ (d .0) (≤ℤ-trans _ (minZ y z) _ (d .1) (c .0))) (≤ℤ-trans _ (minZ y z) _ (d .1) (c .1)))
+
+pub max-assoc : (x y z : ℤ) → maxZ (maxZ x y) z ≡ maxZ x (maxZ y z)
+max-assoc x y z =
+    let a = max-parts x y in
+    let b = max-parts (maxZ x y) z in
+    let c = max-parts y z in
+    let d = max-parts x (maxZ y z) in
+    ≤ℤ-antisym _ _
+    (max-greatest (maxZ x y) z _ (max-greatest x y _ (d .0) (≤ℤ-trans _ (maxZ y z) _ (c .0) (d .1))) (≤ℤ-trans _ (maxZ y z) _ (c .1) (d .1)))
+    (max-greatest x (maxZ y z) _ (≤ℤ-trans _ (maxZ x y) _ (a .0) (b .0)) (max-greatest y z _ (≤ℤ-trans _ (maxZ x y) _ (a .1) (b .0)) (b .1)))
+
+-- and the lesser or the greater is one of the two
+pub min-one : (x y : ℤ) → (minZ x y ≡ x) ⊎ (minZ x y ≡ y)
+min-one x y = go (leZ x y)
+  where
+    go : (b : Bool) → (cond b x y ≡ x) ⊎ (cond b x y ≡ y)
+    go true = inl refl
+    go false = inr refl
+
+pub max-one : (x y : ℤ) → (maxZ x y ≡ x) ⊎ (maxZ x y ≡ y)
+max-one x y = go (leZ x y)
+  where
+    go : (b : Bool) → (cond b y x ≡ x) ⊎ (cond b y x ≡ y)
+    go true = inr refl
+    go false = inl refl

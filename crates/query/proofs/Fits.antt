@@ -1,15 +1,13 @@
 -- From a plan that passes refusals 4 and 3, or tables that are sound, to entries that fit; and from the flags of the calls to their
 -- replies. Assumes nothing.
-use mathlib.Core.Path.{_≡_, refl, sym, _∙_, ap, ap₂, subst}
+use mathlib.Core.Path.{_≡_, refl, sym, _∙_, ap, ap₂}
 use mathlib.Core.Bool.{Bool, true, false, not, cond, _&&_, _||_}
 use mathlib.Core.List.{List, [], _∷_, map}
 use Prim.Native.Nat.{ℕ, zero, suc, _+_, _-_, _*_}
 use native.Mathlib.Omega.{arith}
-use borrow.Author.Tests.{eqb-true}
-use lib.Dec.{T, eqb}
 use lib.IntN.{ℤ}
 use lib.ListN.{length, take, drop}
-use Rattle.integers.proofs.Tests.{not-true, not-false, or-false}
+use Rattle.integers.proofs.Tests.{not-true}
 use Rattle.geom.specs.declared.Point.{Point}
 use Rattle.geom.specs.Range.{inRange, inDoubledRange}
 use Rattle.rules.specs.declared.Kind.{Kind}
@@ -19,10 +17,11 @@ use Rattle.rules.specs.declared.State.{State}
 use Rattle.rules.specs.declared.Verdict.the-variants.{Accepted}
 use Rattle.rules.specs.Edges.{allEdges, onEdge}
 use Rattle.rules.specs.Lists.{anyOf, countOf, partsOf, total, isOdd}
-use Rattle.rules.specs.Plans.{Plan, cornersOf, ringsOf, polygonsOf, isList, uneven, cornerCount, planVerdict, allInRange, planInRange, kindReply, planReply, planHalfReply}
+use Rattle.rules.specs.Plans.{Plan, cornersOf, ringsOf, polygonsOf, planVerdict, allInRange, planInRange, kindReply, planReply, planHalfReply}
 use Rattle.rules.specs.Replies.{crosses, doubled, doubledEdges, halfReply, listReply, treeReply}
 use Rattle.rules.specs.Tables.{endsFrom, lengthsFrom, polygonsIn, planOf, PlanSound}
-use Rattle.rules.proofs.Verdicts.{accepted-passes}
+use Rattle.rules.proofs.Corners.{near-first}
+use Rattle.rules.proofs.Verdicts.{even}
 use Rattle.query.specs.declared.rows.Form.{Form}
 use Rattle.query.specs.declared.rows.Form.the-variants.{Lengths, Ends}
 use Rattle.query.specs.Calls.{planBy, Fitting}
@@ -57,28 +56,7 @@ unfolding lengthsFrom
 lengths-length start [] = refl
 lengths-length start (end ∷ table) = ap suc (lengths-length end table)
 
--- ---- what refusal 3 leaves
-pub record Even (plan : Plan) : Type 0 where
-  pub corners : total (plan .lengths) ≡ cornerCount plan
-  pub rings : isList (plan .kind) ≡ true → total (plan .counts) ≡ length (plan .lengths)
-
-both-left : (a b : Bool) → a && b ≡ false → a ≡ true → b ≡ false
-both-left true b e h = e
-both-left false b e h = absurd (subst T (sym h) tt)
-
-pub even : (plan : Plan) → planVerdict plan ≡ Accepted → Even plan
-unfolding uneven
-even plan e =
-    let passes = accepted-passes plan e .1 in
-    let first = or-false (isOdd (length (plan .coordinates))) _ passes .1 in
-    let second = or-false (not (eqb (total (plan .lengths)) (cornerCount plan))) _ first in
-    record {
-      corners = eqb-true _ _ (not-false (eqb (total (plan .lengths)) (cornerCount plan)) (second .0));
-      rings = λ list.
-          let third = both-left (isList (plan .kind)) _ (second .1) list in
-          eqb-true _ _ (not-false (eqb (total (plan .counts)) (length (plan .lengths))) (or-false (not (eqb (total (plan .counts)) (length (plan .lengths)))) _ third .0));
-    }
-
+-- ---- what is accepted, or sound, fits
 pub accepted-fits : (kind : Kind) (coordinates : List ℤ) (lengths counts : List ℕ) → planVerdict (record { kind = kind; coordinates = coordinates; lengths = lengths; counts = counts }) ≡ Accepted → Fitting Lengths kind coordinates lengths counts
 accepted-fits kind coordinates lengths counts e =
     let h = even (record { kind = kind; coordinates = coordinates; lengths = lengths; counts = counts }) e in
@@ -104,12 +82,6 @@ unfolding partsFrom ringsOf
 tree-is form coordinates rings polygons p = refl
 
 -- ---- corners in range are doubled
-near-first : (corner : Point) (corners : List Point) → allInRange (corner ∷ corners) ≡ true → (inRange corner ≡ true) × (allInRange corners ≡ true)
-unfolding allInRange anyOf
-near-first corner corners e =
-    let none = or-false (not (inRange corner)) _ (not-true _ e) in
-    (not-false (inRange corner) (none .0), ap not (none .1))
-
 doubled-all : (corners : List Point) → allInRange corners ≡ true → map nearDoubled corners ≡ map doubled corners
 doubled-all [] e = refl
 doubled-all (corner ∷ corners) e = let h = near-first corner corners e in

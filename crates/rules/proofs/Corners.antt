@@ -1,12 +1,17 @@
 -- Corners by number: corner i stands at places 2 i and 2 i + 1 of the coordinates. Assumes nothing.
 use mathlib.Core.Path.{_≡_, refl, sym, _∙_, ap}
+use mathlib.Core.Bool.{true, not}
 use mathlib.Core.List.{List, [], _∷_}
 use Prim.Native.Nat.{ℕ, zero, suc, _+_, _*_, _/_, _<_}
 use native.Mathlib.Omega.{arith}
 use lib.IntN.{ℤ, pos}
 use lib.ListN.{length, getD, drop, drop-of-length-le}
-use lib.Seq.{drop-cons, drop-nil}
-use Rattle.rules.specs.Plans.{cornersOf, cornerAt}
+use lib.Seq.{drop-cons, drop-nil, getD-drop}
+use Rattle.integers.proofs.Tests.{not-true, not-false, or-false}
+use Rattle.geom.specs.declared.Point.{Point}
+use Rattle.geom.specs.Range.{inRange}
+use Rattle.rules.specs.Lists.{anyOf}
+use Rattle.rules.specs.Plans.{cornersOf, cornerAt, allInRange}
 
 two-more : (coordinates : List ℤ) (j : ℕ) → j + 1 < length coordinates → drop j coordinates ≡ getD coordinates j (pos 0) ∷ getD coordinates (j + 1) (pos 0) ∷ drop (j + 2) coordinates
 two-more coordinates j h =
@@ -41,3 +46,21 @@ unfolding cornersOf
 corners-length [] = refl
 corners-length (x ∷ []) = refl
 corners-length (x ∷ y ∷ rest) = let r = corners-length rest in omega arith
+
+-- ---- corners in range
+pub near-first : (corner : Point) (corners : List Point) → allInRange (corner ∷ corners) ≡ true → (inRange corner ≡ true) × (allInRange corners ≡ true)
+unfolding allInRange anyOf
+near-first corner corners e =
+    let none = or-false (not (inRange corner)) _ (not-true _ e) in
+    (not-false (inRange corner) (none .0), ap not (none .1))
+
+pub near-at : (corners : List Point) → allInRange corners ≡ true → (i : ℕ) (d : Point) → i < length corners → inRange (getD corners i d) ≡ true
+near-at [] e i d h = absurd (omega arith)
+near-at (corner ∷ corners) e zero d h = near-first corner corners e .0
+near-at (corner ∷ corners) e (suc i) d h = near-at corners (near-first corner corners e .1) i d (omega arith)
+
+-- corner i as an element of the list of corners
+pub corner-is : (coordinates : List ℤ) (i : ℕ) (d : Point) → 2 * i + 1 < length coordinates → getD (cornersOf coordinates) i d ≡ cornerAt coordinates i
+corner-is coordinates i d h =
+    let zero-more : i ≡ i + 0 = omega arith in
+    ap (λ k. getD (cornersOf coordinates) k d) zero-more ∙ sym (getD-drop i (cornersOf coordinates) 0 d) ∙ ap (λ l. getD l 0 d) (corners-cons coordinates i h)

@@ -3,11 +3,13 @@
 use mathlib.Core.Path.{_≡_, refl, sym, _∙_, ap, ap₂}
 use mathlib.Core.Bool.{Bool, true, false, cond, _||_}
 use mathlib.Core.List.{List, [], _∷_, _++_, map}
-use Prim.Native.Nat.{ℕ, zero, suc, _+_, _<_}
+use Prim.Native.Nat.{ℕ, zero, suc, _+_, _≤_, _<_}
 use native.Mathlib.Omega.{arith}
 use borrow.Author.Tests.{lt-ltb}
 use lib.Dec.{ltb, leb·suc-suc}
 use lib.IntN.{ℤ, pos, _+ℤ_, +ℤ-idl, +ℤ-idr, +ℤ-assoc}
+use lib.ListN.{length, getD, take, drop}
+use lib.Seq.{drop-cons}
 use Rattle.integers.proofs.Tests.{or-assoc, or-none}
 use Rattle.geom.specs.declared.Point.{Point}
 use Rattle.predicates.specs.Turn.{onSegment}
@@ -23,10 +25,30 @@ unfoldable pub tabulate : {A : Type 0} → (ℕ → A) → ℕ → List A
 tabulate f zero = []
 tabulate f (suc n) = f 0 ∷ tabulate (λ i. f (suc i)) n
 
-tabulate-same : {A : Type 0} (f g : ℕ → A) (n : ℕ) → ((i : ℕ) → i < n → f i ≡ g i) → tabulate f n ≡ tabulate g n
+pub tabulate-same : {A : Type 0} (f g : ℕ → A) (n : ℕ) → ((i : ℕ) → i < n → f i ≡ g i) → tabulate f n ≡ tabulate g n
 unfolding tabulate
 tabulate-same f g zero e = refl
 tabulate-same f g (suc n) e = ap₂ _∷_ (e 0 (omega arith)) (tabulate-same (λ i. f (suc i)) (λ i. g (suc i)) n (λ i h. e (suc i) (omega arith)))
+
+pub tabulate-at : {A : Type 0} (f : ℕ → A) (n i : ℕ) (d : A) → i < n → getD (tabulate f n) i d ≡ f i
+unfolding tabulate
+tabulate-at f zero i d h = absurd (omega arith)
+tabulate-at f (suc n) zero d h = refl
+tabulate-at f (suc n) (suc i) d h = tabulate-at (λ k. f (suc k)) n i d (omega arith)
+
+pub tabulate-length : {A : Type 0} (f : ℕ → A) (n : ℕ) → length (tabulate f n) ≡ n
+unfolding tabulate
+tabulate-length f zero = refl
+tabulate-length f (suc n) = ap suc (tabulate-length (λ k. f (suc k)) n)
+
+-- a part of a list, by its places
+pub tabulate-part : {A : Type 0} (xs : List A) (start n : ℕ) (d : A) → start + n ≤ length xs → take n (drop start xs) ≡ tabulate (λ i. getD xs (start + i) d) n
+unfolding tabulate
+tabulate-part xs start zero d h = refl
+tabulate-part xs start (suc n) d h =
+    ap (take (suc n)) (drop-cons xs start d (omega arith))
+    ∙ ap₂ _∷_ (ap (λ k. getD xs k d) (let e : start ≡ start + 0 = omega arith in e))
+    (tabulate-part xs (suc start) n d (omega arith) ∙ tabulate-same (λ i. getD xs (suc start + i) d) (λ i. getD xs (start + suc i) d) n (λ i l. ap (λ k. getD xs k d) (let e : suc start + i ≡ start + suc i = omega arith in e)))
 
 -- ---- sums, counts and tests over the numbers below n, the last one last
 unfoldable pub sumTo : (ℕ → ℤ) → ℕ → ℤ

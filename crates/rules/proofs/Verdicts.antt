@@ -1,15 +1,16 @@
 -- Refusals 4 and 3 of a plan: 4 comes first, and each comes under its condition alone. Assumes nothing.
 use mathlib.Core.Path.{_≡_, refl, sym, _∙_, ap, ap₂, subst}
-use mathlib.Core.Bool.{Bool, true, false, cond, _&&_, _||_}
+use mathlib.Core.Bool.{Bool, true, false, not, cond, _&&_, _||_}
 use Prim.Native.Nat.{_≤_, _^_}
 use native.Mathlib.Omega.{arith}
-use borrow.Author.Tests.{ltb-false, le-ltb}
-use lib.Dec.{T, ltb}
+use borrow.Author.Tests.{ltb-false, le-ltb, eqb-true}
+use lib.Dec.{T, eqb, ltb}
 use lib.ListN.{length}
-use Rattle.integers.proofs.Tests.{or-false}
+use Rattle.integers.proofs.Tests.{not-false, or-false}
 use Rattle.rules.specs.declared.Refusal.the-variants.{Uneven, TooMany}
 use Rattle.rules.specs.declared.Verdict.{Verdict}
 use Rattle.rules.specs.declared.Verdict.the-variants.{Accepted, Refused}
+use Rattle.rules.specs.Lists.{total, isOdd}
 use Rattle.rules.specs.Numbers.{verdictNumber}
 use Rattle.rules.specs.Plans.{Plan, cornerCount, isList, tooMany, uneven, planVerdict}
 
@@ -81,3 +82,21 @@ numbers plan = go (tooMany plan) (uneven plan)
     go true odd = refl
     go false true = refl
     go false false = refl
+
+-- ---- 3: what is accepted sums up
+pub record Even (plan : Plan) : Type 0 where
+  pub corners : total (plan .lengths) ≡ cornerCount plan
+  pub rings : isList (plan .kind) ≡ true → total (plan .counts) ≡ length (plan .lengths)
+
+pub even : (plan : Plan) → planVerdict plan ≡ Accepted → Even plan
+unfolding uneven
+even plan e =
+    let passes = accepted-passes plan e .1 in
+    let first = or-false (isOdd (length (plan .coordinates))) _ passes .1 in
+    let second = or-false (not (eqb (total (plan .lengths)) (cornerCount plan))) _ first in
+    record {
+      corners = eqb-true _ _ (not-false (eqb (total (plan .lengths)) (cornerCount plan)) (second .0));
+      rings = λ list.
+          let third = both-left (isList (plan .kind)) _ (second .1) list in
+          eqb-true _ _ (not-false (eqb (total (plan .counts)) (length (plan .lengths))) (or-false (not (eqb (total (plan .counts)) (length (plan .lengths)))) _ third .0));
+    }

@@ -1,0 +1,4 @@
+pub mod Rings
+pub mod Unions
+pub mod Leasts
+pub mod PlanEdges

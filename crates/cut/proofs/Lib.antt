@@ -1,0 +1,4 @@
+pub mod Shuffles
+pub mod Partings
+pub mod Selectings
+pub mod Packing

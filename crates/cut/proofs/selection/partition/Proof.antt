@@ -1,0 +1,84 @@
+-- `cut::selection::partition` meets its contract: one turn moves a number that is at most v in front, or leaves it (`Partings`).
+use Rattle.cut.proofs.selection.partition.Statement.{statement}
+use Rattle.cut.proofs.selection.partition.Tie as tie
+use mathlib.Core.Path.{_≡_, refl, _∙_}
+use mathlib.Core.Logic.{⊎-elim}
+use Prim.Native.Nat.{_-_}
+use native.Mathlib.Omega.{arith}
+use lib.ListN.{length}
+use Rattle.cut.specs.Shuffle.{swapped}
+use Rattle.cut.proofs.Shuffles.{length-swapped}
+use Rattle.cut.proofs.Partings.{Parting, parting-start, parting-in, parting-out, parting-done}
+
+abbrev Inv-loop : tie.InvT-loop
+Inv-loop values₀ lo hi v s₀ i₀ values s i = Parting lo hi v values₀ values s i × (length values ≡ length values₀)
+
+abbrev μ-loop : tie.MeasureT-loop
+μ-loop values₀ lo hi v s₀ i₀ values s i = hi - i
+
+loop-holds : tie.Need-loop-holds Inv-loop μ-loop
+loop-holds c = let a = c .before .args in
+    (parting-start (a .lo) (a .hi) (a .v) (a .values .now) (a .values .now) (c .before .pre .0), refl)
+
+mul-if1 : tie.Need-mul-if1 Inv-loop μ-loop
+mul-if1 c = omega arith
+
+slice-read-if1 : tie.Need-slice-read-if1 Inv-loop μ-loop
+slice-read-if1 c = omega arith
+
+swap-requires : tie.Need-swap-requires Inv-loop μ-loop
+swap-requires c κs = omega arith
+
+add-s : tie.Need-add-s Inv-loop μ-loop
+add-s c = omega arith
+
+add-i : tie.Need-add-i Inv-loop μ-loop
+add-i c = omega arith
+
+loop-less : tie.Need-loop-less Inv-loop μ-loop
+loop-less c = omega arith
+
+loop-again : tie.Need-loop-again Inv-loop μ-loop
+loop-again c =
+    let at-loop = c .before .before .before in
+    let l = at-loop .loop in
+    let start = at-loop .before .before in
+    let a = start .args in
+    ⊎-elim
+    (λ w.
+    let e : c .if1 .values ≡ swapped (l .s) (l .i) (l .values) = w .5 ∙ w .2 .ensures in
+    rw (e, w .6) (
+      parting-in (a .lo) (a .hi) (a .v) (a .values .now) (l .values) (l .s) (l .i) (l .inv .0) (omega arith) (start .pre .1) (w .0 .taken),
+      length-swapped (l .s) (l .i) (l .values) ∙ l .inv .1,
+    ))
+    (λ w. rw (w .1, w .2) (
+      parting-out (a .lo) (a .hi) (a .v) (a .values .now) (l .values) (l .s) (l .i) (l .inv .0) (omega arith) (w .0 .left),
+      l .inv .1,
+    ))
+    (c .if1 .came)
+
+same-length : tie.Need-same-length Inv-loop μ-loop
+same-length c = c .before .loop .inv .1
+
+returns : tie.Need-returns Inv-loop μ-loop
+returns c =
+    let l = c .before .loop in
+    let a = c .before .before .before .args in
+    parting-done (a .lo) (a .hi) (a .v) (a .values .now) (l .values) (l .s) (l .i) (l .inv .0) (c .loop-test .left)
+
+pub partition-spec : {M : Type 1} → statement M
+partition-spec =
+    tie.close
+    (tie.spec
+    Inv-loop
+    μ-loop
+    loop-holds
+    mul-if1
+    slice-read-if1
+    swap-requires
+    add-s
+    add-i
+    loop-less
+    loop-again
+    same-length
+    returns)

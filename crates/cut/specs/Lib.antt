@@ -1,0 +1,3 @@
+pub mod Shuffle
+pub mod Selection
+pub mod Keys

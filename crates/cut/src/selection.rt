@@ -1,0 +1,115 @@
+// A part of a list of numbers cut in two, the lesser ones in front. Selection goes by bisection on a value and not by a pivot, so that
+// no numbers make it slow.
+ghost use mathlib.Core.Path.{_≡_};
+ghost use Prim.Native.Nat.{_+_, _-_, _<_, _≤_};
+ghost use lib.ListN.{length};
+ghost use Rattle.cut.specs.Shuffle.{swapped};
+ghost use Rattle.cut.specs.Selection.{Wider, Spans, Parted, Selected};
+
+// Exchanges what stands at i and at j.
+fn swap(values: &mut [usize], i: usize, j: usize)
+    requires { ⌜ (i < length (now values)) × (j < length (now values)) ⌝ }
+    ensures { λ _. ⌜ now (values .exit) ≡ swapped i j (now (values .entry)) ⌝ }
+{
+    let x = values[i];
+    let y = values[j];
+    values[i] = y;
+    values[j] = x;
+}
+
+// The least and the greatest of some numbers.
+struct Span {
+    least: usize,
+    greatest: usize,
+}
+
+// The span with one number more.
+fn wider(span: Span, x: usize) -> Span
+    requires { ⌜ span .least ≤ span .greatest ⌝ }
+    ensures { λ r. ⌜ Wider (span .least) (span .greatest) x (r .least) (r .greatest) ⌝ }
+{
+    if x < span.least {
+        return Span {
+            least: x,
+            greatest: span.greatest,
+        };
+    }
+    if span.greatest < x {
+        return Span {
+            least: span.least,
+            greatest: x,
+        };
+    }
+    span
+}
+
+// The least and the greatest of the numbers at the places from lo to hi, of which there is one.
+fn span_of(values: &[usize], lo: usize, hi: usize) -> Span
+    requires { ⌜ (lo < hi) × (hi ≤ length (now values)) ⌝ }
+    ensures { λ r. ⌜ Spans (now (values .entry)) lo hi (r .least) (r .greatest) ⌝ }
+{
+    let x = values[lo];
+    let mut span = Span {
+        least: x,
+        greatest: x,
+    };
+    let mut i = lo + 1;
+    while i < hi {
+        span = wider(span, values[i]);
+        i += 1;
+    }
+    span
+}
+
+// Moves the numbers of [lo, hi) that are at most v in front of the others, and returns the place of the first other.
+fn partition(values: &mut [usize], lo: usize, hi: usize, v: usize) -> usize
+    requires { ⌜ (lo ≤ hi) × (hi ≤ length (now values)) ⌝ }
+    ensures { λ r. ⌜ Parted lo hi v (now (values .entry)) (now (values .exit)) r ⌝ }
+{
+    let mut s = lo;
+    let mut i = lo;
+    while i < hi {
+        if values[i] <= v {
+            swap(values, s, i);
+            s += 1;
+        }
+        i += 1;
+    }
+    s
+}
+
+/// Reorders [lo, hi) so that no number before `middle` exceeds one from `middle` on, and returns how many numbers it read: at most 65
+/// times the part's length, whatever the numbers are, since each of at most 64 partitions halves the values that are left.
+pub fn select(values: &mut [usize], lo: usize, middle: usize, hi: usize) -> usize
+    requires { ⌜ (lo < hi) × (lo ≤ middle) × (middle ≤ hi) × (hi ≤ length (now values)) × (hi ≤ 1048576) ⌝ }
+    ensures { λ r. ⌜ Selected lo middle hi (now (values .entry)) (now (values .exit)) r ⌝ }
+{
+    let span = span_of(values, lo, hi);
+    let mut p = lo;
+    let mut q = hi;
+    let mut a = span.least;
+    let mut b = span.greatest;
+    let mut reads = hi - lo;
+    for _ in 0usize..64 {
+        if middle <= p {
+            return reads;
+        }
+        if q <= middle {
+            return reads;
+        }
+        if b <= a {
+            return reads;
+        }
+        let v = a + (b - a) / 2;
+        reads += q - p;
+        let s = partition(values, p, q, v);
+        if middle <= s {
+            q = s;
+            b = v;
+        } else {
+            p = s;
+            a = v + 1;
+        }
+    }
+    reads
+}

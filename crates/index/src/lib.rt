@@ -1,0 +1,3 @@
+// The hierarchy of boxes over the edges of a plan (document 01, items 5 and 9; `Index::of_boxes` of src/prepared.rs).
+pub mod build;
+pub mod count;
