@@ -1,5 +1,5 @@
 -- The box of a part is the smallest round its edges: it holds their end points, each of its ends is one of theirs, and every box that
--- holds the edges' boxes holds it. Assumes nothing.
+-- holds the edges' boxes holds it; no other box is smallest. Assumes nothing.
 use mathlib.Core.Path.{_≡_, refl, sym, _∙_, subst}
 use mathlib.Core.Bool.{true, _&&_}
 use mathlib.Core.Logic.{_⊎_, inl, inr}
@@ -8,15 +8,17 @@ use Prim.Native.Nat.{ℕ, zero, suc, _+_, _≤_, _<_, _^_}
 use native.Mathlib.Decide.{ℕ-discrete}
 use native.Mathlib.Omega.{arith}
 use lib.IntN.{ℤ, natAbs}
+use lib.Signed.{_≤ℤ_}
 use lib.ListN.{getD}
 use Rattle.integers.specs.Extremes.{minZ, maxZ}
+use Rattle.integers.proofs.Order.{≤ℤ-antisym}
 use Rattle.integers.proofs.Signs.{min-one, max-one}
 use Rattle.integers.proofs.Tests.{and-true}
 use Rattle.geom.specs.declared.Point.{Point}
 use Rattle.geom.specs.declared.Rect.{Rect}
-use Rattle.geom.specs.Boxes.{unionOf, holdsPoint, holdsRect}
+use Rattle.geom.specs.Boxes.{unionOf, emptyRect, holdsPoint, holdsRect}
 use Rattle.geom.specs.Range.{within}
-use Rattle.geom.proofs.Boxes.{union-left, union-right, union-least, rect-holds-first, rect-holds-second, rect-proper, holds-itself}
+use Rattle.geom.proofs.Boxes.{Held, held, union-left, union-right, union-least, rect-holds-first, rect-holds-second, rect-proper, holds-itself}
 use Rattle.geom.proofs.Range.{near}
 use Rattle.boxes.specs.Rings.{edgeOf, nextCorner, RingEnds, CornersNear}
 use Rattle.boxes.specs.Boxes.{edgeBox, boxOf, NearRect, Names, Reached, SmallestRound}
@@ -97,6 +99,43 @@ module _ (corners : List ℤ) (rings edges : List ℕ) where
     max-x = box-end (λ r. r .max .x) (λ p. p .x) maxZ max-one (λ r s. refl) (λ e. refl) f m l;
     max-y = box-end (λ r. r .max .y) (λ p. p .y) maxZ max-one (λ r s. refl) (λ e. refl) f m l;
   }
+
+  -- ---- and these words fit one box: what holds of all end points holds of an end of a box, and so each of two smallest boxes ends
+  -- where the other does
+  reached-held : (h : Point → ℤ) (P : ℤ → Type 0) (s : Rect) → ((p : Point) → Held s p → P (h p)) → (f m : ℕ) → SmallestRound corners rings edges f m s → (z : ℤ) → Reached h corners rings edges f m z → P z
+  reached-held h P s read f m S z (k, a, b, inl e) = subst P e (read (edgeOf corners rings (getD edges k 0) .0) (held s (edgeOf corners rings (getD edges k 0) .0) (S .starts k a b)))
+  reached-held h P s read f m S z (k, a, b, inr e) = subst P e (read (edgeOf corners rings (getD edges k 0) .1) (held s (edgeOf corners rings (getD edges k 0) .1) (S .stops k a b)))
+
+  least-x : (r s : Rect) (f m : ℕ) → SmallestRound corners rings edges f m r → SmallestRound corners rings edges f m s → s .min .x ≤ℤ r .min .x
+  least-x r s f m R S = reached-held (λ p. p .x) (λ z. s .min .x ≤ℤ z) s (λ p h. h .right-of) f m S (r .min .x) (R .min-x)
+
+  least-y : (r s : Rect) (f m : ℕ) → SmallestRound corners rings edges f m r → SmallestRound corners rings edges f m s → s .min .y ≤ℤ r .min .y
+  least-y r s f m R S = reached-held (λ p. p .y) (λ z. s .min .y ≤ℤ z) s (λ p h. h .above) f m S (r .min .y) (R .min-y)
+
+  greatest-x : (r s : Rect) (f m : ℕ) → SmallestRound corners rings edges f m r → SmallestRound corners rings edges f m s → r .max .x ≤ℤ s .max .x
+  greatest-x r s f m R S = reached-held (λ p. p .x) (λ z. z ≤ℤ s .max .x) s (λ p h. h .left-of) f m S (r .max .x) (R .max-x)
+
+  greatest-y : (r s : Rect) (f m : ℕ) → SmallestRound corners rings edges f m r → SmallestRound corners rings edges f m s → r .max .y ≤ℤ s .max .y
+  greatest-y r s f m R S = reached-held (λ p. p .y) (λ z. z ≤ℤ s .max .y) s (λ p h. h .below) f m S (r .max .y) (R .max-y)
+
+  round-same : (r s : Rect) (f m : ℕ) → SmallestRound corners rings edges f m r → SmallestRound corners rings edges f m s → r ≡ s
+  round-same r s f m R S = λ i. record {
+    min = record { x = ≤ℤ-antisym (r .min .x) (s .min .x) (least-x s r f m S R) (least-x r s f m R S) i; y = ≤ℤ-antisym (r .min .y) (s .min .y) (least-y s r f m S R) (least-y r s f m R S) i };
+    max = record { x = ≤ℤ-antisym (r .max .x) (s .max .x) (greatest-x r s f m R S) (greatest-x s r f m S R) i; y = ≤ℤ-antisym (r .max .y) (s .max .y) (greatest-y r s f m R S) (greatest-y s r f m S R) i };
+  }
+
+  -- a smallest box is round at least one edge
+  round-some : (r : Rect) (f m : ℕ) → SmallestRound corners rings edges f m r → 0 < m
+  round-some r f m R = let a = R .min-x .1 in let b = R .min-x .2 in omega arith
+
+  -- document 01's words determine the box of a part that has an edge
+  pub smallest-box : (r : Rect) (f m : ℕ) → SmallestRound corners rings edges f m r → r ≡ boxOf corners rings edges f m
+  smallest-box r f m R = round-same r (boxOf corners rings edges f m) f m R (box-smallest f m (round-some r f m R))
+
+  -- and item 1 that of one that has none
+  pub box-none : (f : ℕ) → boxOf corners rings edges f 0 ≡ emptyRect
+  unfolding boxOf
+  box-none f = refl
 
 -- ---- boxes of corners in range
 near-x : (p : Point) → within (2 ^ 40) (p .x) && within (2 ^ 40) (p .y) ≡ true → natAbs (p .x) ≤ 2 ^ 40

@@ -1,7 +1,7 @@
 // The ring of an edge, its two corners and its box, and the smallest box round a part of the edge list, over the lent tables of a
 // prepared plan (document 01, items 1 and 9).
 ghost use mathlib.Core.Path.{_≡_};
-ghost use Prim.Native.Nat.{_+_, _-_, _*_, _<_, _≤_};
+ghost use Prim.Native.Nat.{_-_, _*_, _<_, _≤_};
 ghost use lib.ListN.{length, getD, set};
 ghost use Rattle.boxes.specs.Rings.{startOf, nextIn, RingAt, RingEnds};
 ghost use Rattle.boxes.specs.Boxes.{edgeBox, boxOf, rectAt, rowOf, Names};

@@ -2,11 +2,17 @@
 
 /// How the keys are spread.
 pub enum Family {
+    /// All the same.
     Equal,
+    /// Two values by turns, in a pattern of three corners.
     TwoValued,
+    /// Rising.
     Sorted,
+    /// Rising to the middle and falling after it.
     OrganPipe,
+    /// The least and the greatest coordinate in range, two corners each.
     Extreme,
+    /// The powers of two, one after another.
     Doubling,
 }
 

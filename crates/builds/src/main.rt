@@ -1,7 +1,8 @@
 // Builds the index over rings of corners on a line, whose keys are equal, two-valued, sorted, an organ pipe, extreme or doubling, and
-// writes for each how many nodes there are and how often a key is read a level, as a multiple of the number of edges.
+// writes for each how many nodes there are, how often a key is read a level, as a multiple of the number of edges, and how many reads
+// of keys there are in all.
 //
-// Without an argument it builds for every n from 0 to 600 and writes the sum of the nodes. With one it builds at 589,824 edges, from
+// Without an argument it builds for every n from 0 to 600 and writes sums over them. With one it builds at 589,824 edges, from
 // where on there are 262,143 nodes, and at the ceiling of 1,048,576, whose tables take 42 MB of stack.
 mod keys;
 mod measure;
@@ -19,6 +20,8 @@ fn write_measured(measured: Measured) {
     io::print_decimal(STDOUT_FILENO, measured.nodes as u64);
     write(b" reads ");
     io::print_decimal(STDOUT_FILENO, measured.reads as u64);
+    write(b" in all ");
+    io::print_decimal(STDOUT_FILENO, measured.all as u64);
     write(b"\n");
 }
 
@@ -33,7 +36,7 @@ fn write_name(family: Family) {
     }
 }
 
-// Every n from 0 to 600: the sum of the nodes, and the most reads of any level.
+// Every n from 0 to 600: the sum of the nodes, the most reads of any level, and the sum of all reads.
 fn build_small(family: Family) {
     let mut corners: [i64; 1200] = [0; 1200];
     let mut boxes: [[i64; 4]; 255] = [[0; 4]; 255];

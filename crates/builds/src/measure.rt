@@ -8,10 +8,20 @@ use cut::selection::select;
 use index::build::build;
 use index::count::node_count;
 
-/// Nodes, and the most reads of a key in a level, as a multiple of the number of edges, rounded down.
+/// What a build costs.
 pub struct Measured {
+    /// How many nodes there are.
     pub nodes: usize,
+    /// The most reads of a key in a level, as a multiple of the number of edges, rounded down.
     pub reads: usize,
+    /// The reads of a key in all levels together, as they are counted.
+    pub all: usize,
+}
+
+// The reads of a key: in the level that has the most, and in all levels together.
+struct Reads {
+    most: usize,
+    all: usize,
 }
 
 // The sum, or the greatest number, which no run reaches.
@@ -28,11 +38,12 @@ fn greater(a: usize, b: usize) -> usize {
 }
 
 impl Measured {
-    /// The nodes of both together, and the more reads of the two.
+    /// The nodes and all reads of both together, and the more reads a level of the two.
     pub(crate) fn with(self, other: Measured) -> Measured {
         Measured {
             nodes: sum(self.nodes, other.nodes),
             reads: greater(self.reads, other.reads),
+            all: sum(self.all, other.all),
         }
     }
 }
@@ -120,20 +131,31 @@ fn most(reads: [usize; 18]) -> usize {
     found
 }
 
-// The most reads of a level. A child stands after its node, so node by node each level is known when it is asked. On a line every cut
+// The sum of the reads of all levels.
+fn total(reads: [usize; 18]) -> usize {
+    let mut found: usize = 0;
+    for k in 0usize..18 {
+        found = sum(found, reads[k]);
+    }
+    found
+}
+
+fn counted(reads: [usize; 18]) -> Reads {
+    Reads {
+        most: most(reads),
+        all: total(reads),
+    }
+}
+
+// The reads of all nodes' cuts, level by level. A child stands after its node, so node by node each level is known when it is asked. On a line every cut
 // goes along x, and what a cut reads depends on its keys alone and not on their order: these are the builder's reads.
-fn most_reads(
-    parts: &[[usize; 3]],
-    values: &mut [usize],
-    levels: &mut [u8],
-    nodes: usize,
-) -> usize {
+fn reads_of(parts: &[[usize; 3]], values: &mut [usize], levels: &mut [u8], nodes: usize) -> Reads {
     let mut reads: [usize; 18] = [0; 18];
     if parts.len() < nodes {
-        return 0;
+        return Reads { most: 0, all: 0 };
     }
     if levels.len() < nodes {
-        return 0;
+        return Reads { most: 0, all: 0 };
     }
     let mut p: usize = 0;
     while p < nodes {
@@ -146,7 +168,7 @@ fn most_reads(
         note(levels, child, level + 1);
         p += 1;
     }
-    most(reads)
+    counted(reads)
 }
 
 // Builds over one ring of n corners, counts the nodes, and reads the keys of every level again.
@@ -159,16 +181,18 @@ fn measure(
     n: usize,
 ) -> Measured {
     let nodes = build_packed(corners, boxes, parts, edges, n);
-    let reads = most_reads(parts, edges, levels, nodes);
+    let reads = reads_of(parts, edges, levels, nodes);
     if n == 0 {
         return Measured {
             nodes: nodes,
             reads: 0,
+            all: reads.all,
         };
     }
     Measured {
         nodes: nodes,
-        reads: reads / n,
+        reads: reads.most / n,
+        all: reads.all,
     }
 }
 
@@ -196,7 +220,11 @@ pub(crate) fn all_to(
     last: usize,
     family: Family,
 ) -> Measured {
-    let mut together = Measured { nodes: 0, reads: 0 };
+    let mut together = Measured {
+        nodes: 0,
+        reads: 0,
+        all: 0,
+    };
     let mut n: usize = 0;
     while n < last {
         together = together.with(filled(corners, boxes, parts, edges, levels, n, family));

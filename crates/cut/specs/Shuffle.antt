@@ -1,4 +1,5 @@
--- The one notion of reordering: a list reached by swaps of two places in a window.
+-- The one notion of reordering: a list reached by swaps of two places in a window. A cut reorders a node's part of the edge list by
+-- it (document 01, item 5).
 use mathlib.Core.List.{List}
 use Prim.Native.Nat.{ℕ, _≤_, _<_}
 use lib.ListN.{length, getD, set}

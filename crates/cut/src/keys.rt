@@ -1,7 +1,7 @@
 // The cutting key of an edge, and the cut of a part of the edge list by it. While a part is cut it holds packed numbers, key and edge
 // number in one, side by side in memory; the edge's box is looked up once a cut and not at each comparison.
 ghost use mathlib.Core.Path.{_≡_};
-ghost use Prim.Native.Nat.{_+_, _%_, _^_, _<_, _≤_};
+ghost use Prim.Native.Nat.{_+_, _^_, _<_, _≤_};
 ghost use lib.IntN.{natAbs};
 ghost use lib.ListN.{length};
 ghost use Rattle.boxes.specs.Rings.{RingEnds, CornersNear};
@@ -13,7 +13,9 @@ use geom::Rect;
 
 /// The axis along which a part is cut.
 pub enum Axis {
+    /// Left and right parts, by x.
     X,
+    /// Lower and upper parts, by y.
     Y,
 }
 
@@ -47,7 +49,7 @@ fn packed(key: i64, e: usize) -> usize
     (key + 2199023255552) as usize * 1048576 + e
 }
 
-/// Puts packed numbers in the place of the edges of a part.
+/// Puts packed numbers in the place of the edges of a part: until they are unpacked, the part holds these and no edge numbers.
 pub fn pack(
     corners: &[i64],
     rings: &[usize],

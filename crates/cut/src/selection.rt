@@ -1,7 +1,7 @@
 // A part of a list of numbers cut in two, the lesser ones in front. Selection goes by bisection on a value and not by a pivot, so that
 // no numbers make it slow.
 ghost use mathlib.Core.Path.{_≡_};
-ghost use Prim.Native.Nat.{_+_, _-_, _<_, _≤_};
+ghost use Prim.Native.Nat.{_<_, _≤_};
 ghost use lib.ListN.{length};
 ghost use Rattle.cut.specs.Shuffle.{swapped};
 ghost use Rattle.cut.specs.Selection.{Wider, Spans, Parted, Selected};

@@ -21,6 +21,11 @@ module _ (parts : List (List ℕ)) where
   laid-child c u w (leaf s) big = absurd (omega arith)
   laid-child c u w (node {v = v} _ kid R L) big = (kid, omega (arith, laid-grows (u + 1) (u + 2) v R, laid-grows u v w L))
 
+  -- the nodes below a cut node's two parts take places too, those below the right part first
+  pub laid-parts : (c u w : ℕ) → Laid parts c u w → 8 < countAt parts c → (v : ℕ) × (v ≤ w) × Laid parts (childAt parts c) v w × Laid parts (childAt parts c + 1) (u + 2) v
+  laid-parts c u w (leaf s) big = absurd (omega arith)
+  laid-parts c u w (node {v = v} _ kid R L) big = (v, laid-grows u v w L, subst (λ (q : ℕ). Laid parts q v w) (sym kid) L, subst (λ (q : ℕ). Laid parts (q + 1) (u + 2) v) (sym kid) R)
+
   -- each node below c has its children, if it is cut, at later places below w
   pub laid-later : (c u w : ℕ) → Laid parts c u w → (p : ℕ) → u ≤ p → p < w → 8 < countAt parts p → (p < childAt parts p) × (childAt parts p + 1 < w)
   laid-later c u w (leaf s) p a b big = absurd (omega arith)
@@ -57,13 +62,13 @@ module _ (parts : List (List ℕ)) where
       omega (arith, node-count-cut (countAt parts c) big)
 
 -- ---- the places node by node, as code can test them: the rule of the next free places comes to this
-pub record Placed (parts : List (List ℕ)) (p : ℕ) : Type 0 where
+pub record NodePlaces (parts : List (List ℕ)) (p : ℕ) : Type 0 where
   pub right-place : 8 < countAt parts (childAt parts p + 1) → childAt parts (childAt parts p + 1) ≡ childAt parts p + 2
   pub left-place : 8 < countAt parts (childAt parts p) → childAt parts (childAt parts p) ≡ childAt parts p + 1 + nodeCount (countAt parts (childAt parts p + 1))
 
 module _ (parts : List (List ℕ)) (nodes : ℕ) (halves : (p : ℕ) → p < nodes → 8 < countAt parts p → Halves parts p) where
   -- from the nodes to the rule
-  pub laid-from : ((p : ℕ) → p < nodes → 8 < countAt parts p → Placed parts p) → (bound c u : ℕ) → countAt parts c < bound → c < nodes → (8 < countAt parts c → childAt parts c ≡ u) → u + nodeCount (countAt parts c) ≤ nodes + 1
+  pub laid-from : ((p : ℕ) → p < nodes → 8 < countAt parts p → NodePlaces parts p) → (bound c u : ℕ) → countAt parts c < bound → c < nodes → (8 < countAt parts c → childAt parts c ≡ u) → u + nodeCount (countAt parts c) ≤ nodes + 1
       → Laid parts c u (u + nodeCount (countAt parts c) - 1)
   laid-from placed zero c u l h kid fits = absurd (omega arith)
   laid-from placed (suc bound) c u l h kid fits = split (decLt 8 (countAt parts c)) (laid-from placed bound (u + 1) (u + 2)) (laid-from placed bound u)
@@ -90,8 +95,15 @@ module _ (parts : List (List ℕ)) (nodes : ℕ) (halves : (p : ℕ) → p < nod
           let L = left v (omega arith) (omega arith) (λ b. ap (childAt parts) (sym k) ∙ P .left-place (rw (ap (countAt parts) k) b) ∙ (λ i. k i + 1 + nodeCount (countAt parts (k i + 1))) ∙ there) (omega arith) in
           subst (Laid parts c u) (let e : v + nodeCount (countAt parts u) - 1 ≡ u + nodeCount (countAt parts c) - 1 = omega arith in e) (node big k R L)
 
+  -- from the nodes to the rule of a whole table: a cut root's children take the places 1 and 2
+  pub laid-whole : nodeCount (countAt parts 0) ≡ nodes → (8 < countAt parts 0 → childAt parts 0 ≡ 1) → ((p : ℕ) → p < nodes → 8 < countAt parts p → NodePlaces parts p) → Laid parts 0 1 nodes
+  laid-whole all root placed =
+      let some = node-count-some (countAt parts 0) in
+      let e : 1 + nodeCount (countAt parts 0) - 1 ≡ nodes = omega arith in
+      subst (Laid parts 0 1) e (laid-from placed (suc (countAt parts 0)) 0 1 (omega arith) (omega arith) root (omega arith))
+
   -- and back
-  pub laid-placed : (c u w : ℕ) → c < nodes → w ≤ nodes → Laid parts c u w → 8 < countAt parts c → Placed parts c
+  pub laid-placed : (c u w : ℕ) → c < nodes → w ≤ nodes → Laid parts c u w → 8 < countAt parts c → NodePlaces parts c
   laid-placed c u w l t (leaf s) big = absurd (omega arith)
   laid-placed c u w l t (node {v = v} _ kid R L) big =
       let grows = laid-grows parts (u + 1) (u + 2) v R in

@@ -1,5 +1,5 @@
 -- What sound tables give to walks, refits and corrections. Assumes nothing.
-use mathlib.Core.Path.{_≡_, sym, ap, _∙_}
+use mathlib.Core.Path.{_≡_, sym, ap, _∙_, subst}
 use mathlib.Core.Bool.{Bool}
 use mathlib.Core.List.{List, []}
 use Prim.Native.Nat.{ℕ, suc, _+_, _-_, _/_, _≤_, _<_}
@@ -10,7 +10,6 @@ use lib.IntN.{ℤ}
 use lib.ListN.{getD}
 use Rattle.geom.specs.Boxes.{unionOf}
 use Rattle.rules.specs.Nodes.{nodeCount}
-use Rattle.rules.proofs.Nodes.{node-count-cut}
 use Rattle.rules.proofs.Indexed.{countTo}
 use Rattle.boxes.specs.Boxes.{boxOf, rectAt, Names}
 use Rattle.boxes.proofs.Unions.{box-join}
@@ -20,13 +19,18 @@ use Rattle.index.specs.Sound.{Smallest, IndexSound}
 use Rattle.index.proofs.Counts.{node-count-some}
 use Rattle.index.proofs.Once.{entry-in, entry-place, entry-once, entries-counted}
 use Rattle.index.proofs.Ordering.{rect-read}
-use Rattle.index.proofs.Places.{laid-child, laid-grows, laid-later}
+use Rattle.index.proofs.Places.{NodePlaces, laid-child, laid-grows, laid-later, laid-nodes, laid-parts, laid-placed}
 use Rattle.index.proofs.Reordered.{count-places}
 
 -- ---- one set of smallest boxes for equal corners, edges and parts
 pub smallest-one : (corners : List ℤ) (rings edges : List ℕ) (parts : List (List ℕ)) (boxes boxes′ : List (List ℤ)) (p : ℕ) → Smallest corners rings edges parts boxes p → Smallest corners rings edges parts boxes′ p → getD boxes p [] ≡ getD boxes′ p []
 unfolding Smallest
 smallest-one corners rings edges parts boxes boxes′ p a b = a ∙ sym b
+
+-- two tables of boxes, each smallest round the same parts of the same edges, agree on the row of every node
+pub smallest-tables : (corners : List ℤ) (rings edges : List ℕ) (parts : List (List ℕ)) (boxes boxes′ : List (List ℤ)) (nodes : ℕ) → ((p : ℕ) → p < nodes → Smallest corners rings edges parts boxes p) → ((p : ℕ) → p < nodes → Smallest corners rings edges parts boxes′ p)
+    → (p : ℕ) → p < nodes → getD boxes p [] ≡ getD boxes′ p []
+smallest-tables corners rings edges parts boxes boxes′ nodes a b p l = smallest-one corners rings edges parts boxes boxes′ p (a p l) (b p l)
 
 -- the row of a smallest box, read as a box
 pub smallest-rect : (corners : List ℤ) (rings edges : List ℕ) (parts : List (List ℕ)) (boxes : List (List ℤ)) (p : ℕ) → Smallest corners rings edges parts boxes p → rectAt boxes p ≡ boxOf corners rings edges (firstAt parts p) (countAt parts p)
@@ -86,13 +90,37 @@ module _ (n : ℕ) (corners : List ℤ) (rings : List ℕ) (boxes : List (List �
   pub part-some : 0 < n → (p : ℕ) → p < nodeCount n → 0 < countAt parts p
   part-some some = every-node (λ p. 0 < countAt parts p) (omega (arith, S .root-count)) (λ p l big h. let H = S .halves p l big in omega arith)
 
-  -- the nodes from p down are N(count)
-  pub nodes-below : (p : ℕ) → p < nodeCount n → 8 < countAt parts p → nodeCount (countAt parts p) ≡ 1 + nodeCount (countAt parts (childAt parts p)) + nodeCount (countAt parts (childAt parts p + 1))
-  nodes-below p l big =
-      let H = S .halves p l big in
-      let a = ap nodeCount (H .left-count) in
-      let b = ap nodeCount (H .right-count) in
-      omega (arith, node-count-cut (countAt parts p) big)
+  -- the nodes below a node stand side by side
+  laid-below : (p : ℕ) → p < nodeCount n → (u : ℕ) × (w : ℕ) × (w ≤ nodeCount n) × Laid parts p u w
+  laid-below = every-node (λ p. (u : ℕ) × (w : ℕ) × (w ≤ nodeCount n) × Laid parts p u w) (1, nodeCount n, omega arith, S .places) down
+    where
+      down : (p : ℕ) → p < nodeCount n → 8 < countAt parts p → ((u : ℕ) × (w : ℕ) × (w ≤ nodeCount n) × Laid parts p u w)
+          → ((u : ℕ) × (w : ℕ) × (w ≤ nodeCount n) × Laid parts (childAt parts p) u w) × ((u : ℕ) × (w : ℕ) × (w ≤ nodeCount n) × Laid parts (childAt parts p + 1) u w)
+      down p l big (u, w, t, D) =
+          let h = laid-parts parts p u w D big in
+          let g = h .1 in
+          ((h .0, w, t, h .2), (u + 2, h .0, omega arith, h .3))
+
+  -- there are N(count) nodes from a cut node p down: the ones below it take the N(count) − 1 places from its left child on
+  pub nodes-below : (p : ℕ) → p < nodeCount n → 8 < countAt parts p → Laid parts p (childAt parts p) (childAt parts p + nodeCount (countAt parts p) - 1)
+  nodes-below p l big = go (laid-below p l)
+    where
+      go : ((u : ℕ) × (w : ℕ) × (w ≤ nodeCount n) × Laid parts p u w) → Laid parts p (childAt parts p) (childAt parts p + nodeCount (countAt parts p) - 1)
+      go (u, w, t, D) =
+          let kid = laid-child parts p u w D big .0 in
+          let all = laid-nodes parts (nodeCount n) (S .halves) p u w l t D in
+          let e : w ≡ childAt parts p + nodeCount (countAt parts p) - 1 = omega arith in
+          subst (Laid parts p (childAt parts p)) e (subst (λ (q : ℕ). Laid parts p q w) (sym kid) D)
+
+  -- item 5's places node by node, from the root on; `laid-whole` goes the other way
+  pub root-child : 8 < countAt parts 0 → childAt parts 0 ≡ 1
+  root-child big = laid-child parts 0 1 (nodeCount n) (S .places) big .0
+
+  pub node-places : (p : ℕ) → p < nodeCount n → 8 < countAt parts p → NodePlaces parts p
+  node-places p l big = go (laid-below p l)
+    where
+      go : ((u : ℕ) × (w : ℕ) × (w ≤ nodeCount n) × Laid parts p u w) → NodePlaces parts p
+      go (u, w, t, D) = laid-placed parts (nodeCount n) (S .halves) p u w l t D big
 
   -- ---- the edge list
   once-by-place : (e : ℕ) → e < n → countTo (λ k. eqb (getD edges k 0) e) n ≡ 1

@@ -17,7 +17,7 @@ pub record Numbered (n : ℕ) (xs ys : List ℕ) : Type 0 where
   pub inside : (k : ℕ) → k < n → getD ys k 0 ≡ k
   pub after : (k : ℕ) → n ≤ k → getD ys k 0 ≡ getD xs k 0
 
--- ys is xs with a at u and b next to it, as far as the places up to there go
+-- ys has a at place u, b at place u + 1 and xs's entries before them; of the places after them nothing is said
 pub record Two (xs : List ℕ) (u a b : ℕ) (ys : List ℕ) : Type 0 where
   pub long : length ys ≡ length xs
   pub before : (k : ℕ) → k < u → getD ys k 0 ≡ getD xs k 0

@@ -24,8 +24,9 @@ pub record Halves (parts : List (List ℕ)) (p : ℕ) : Type 0 where
   pub right-first : firstAt parts (childAt parts p + 1) ≡ firstAt parts p + countAt parts p / 2
   pub right-count : countAt parts (childAt parts p + 1) ≡ countAt parts p - countAt parts p / 2
 
--- the nodes below c take the places from u to w. A node of 8 edges or fewer is a leaf. The two parts of a larger one take the next two
--- free places, left first; the right part is cut first, so the nodes below it come next, and then those below the left part
+-- the nodes below c take the places from u on up to w, which is the next free one and not theirs. A node of 8 edges or fewer is a
+-- leaf. The two parts of a larger one take the next two free places, left first; the right part is cut first, so the nodes below it
+-- come next, and then those below the left part
 pub data Laid (parts : List (List ℕ)) : ℕ → ℕ → ℕ → Type 0 where
   leaf : {c u : ℕ} → countAt parts c ≤ 8 → Laid parts c u u
   node : {c u v w : ℕ} → 8 < countAt parts c → childAt parts c ≡ u → Laid parts (u + 1) (u + 2) v → Laid parts u v w → Laid parts c u w

@@ -1,7 +1,7 @@
--- `builds::measure::most_reads` is safe and ends.
+-- `builds::measure::reads_of` is safe and ends.
 use borrow.Author.Needs.{needs}
-use Rattle.builds.proofs.measure.most_reads.Statement.{statement}
-use Rattle.builds.proofs.measure.most_reads.Tie as tie
+use Rattle.builds.proofs.measure.reads_of.Statement.{statement}
+use Rattle.builds.proofs.measure.reads_of.Tie as tie
 use Prim.Native.Nat.{_-_, _≤_}
 use native.Mathlib.Omega.{arith}
 use mathlib.Core.Path.{_≡_, _∙_}
@@ -89,8 +89,8 @@ loop-again : tie.Need-loop-again Inv-loop μ-loop
 loop-again c = let l = c .before .before .before .before .before .before .before .before .before .before .before .before .before .before .before .loop in
     (omega (arith, c .before .before .before .before .before .before .before .before .before .before .before .before .before .before .loop-test .taken), simp length-set (l .inv .1), c .before .before .before .before .before .before .before .cut-again .kept .0 ∙ l .inv .2, c .before .before .note .kept .0 ∙ l .inv .3)
 
-most-requires : tie.Need-most-requires Inv-loop μ-loop
-most-requires c κs = search needs
+counted-requires : tie.Need-counted-requires Inv-loop μ-loop
+counted-requires c κs = search needs
 
 same-length : tie.Need-same-length Inv-loop μ-loop
 same-length c = search needs
@@ -101,8 +101,8 @@ same-length-2 c = search needs
 returns-3 : tie.Need-returns-3 Inv-loop μ-loop
 returns-3 c = search needs
 
-pub most-reads-spec : {M : Type 1} → statement M
-most-reads-spec =
+pub reads-of-spec : {M : Type 1} → statement M
+reads-of-spec =
     tie.close
     (tie.spec
     Inv-loop
@@ -132,7 +132,7 @@ most-reads-spec =
     add-p
     loop-less
     loop-again
-    most-requires
+    counted-requires
     same-length
     same-length-2
     returns-3)
