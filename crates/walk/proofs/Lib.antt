@@ -1,3 +1,5 @@
 pub mod Missing
 pub mod Standing
 pub mod Turning
+pub mod Sums
+pub mod Walked
