@@ -3,3 +3,4 @@ pub mod Standing
 pub mod Turning
 pub mod Sums
 pub mod Walked
+pub mod Caught

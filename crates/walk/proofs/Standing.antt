@@ -15,7 +15,7 @@ use Rattle.index.specs.Build.{Two}
 use Rattle.index.proofs.Counts.{node-count-some}
 use Rattle.index.proofs.Soundness.{children-later, part-inside}
 use Rattle.walk.specs.declared.Cursor.{Cursor}
-use Rattle.walk.specs.Steps.{Inside, Sound, begin, owed, Walking, Begun}
+use Rattle.walk.specs.Steps.{Inside, afterNode, Sound, begin, owed, Walking, Begun}
 
 -- what holds below u, at u and next to it
 up-two : (P : ℕ → Type 0) (u : ℕ) → ((j : ℕ) → j < u → P j) → P u → P (u + 1) → (j : ℕ) → j < u + 2 → P j
@@ -138,7 +138,7 @@ module _ (n : ℕ) (corners : List ℤ) (rings : List ℕ) (boxes : List (List �
           go (no d) = omega (arith, S .few)
 
       -- the top comes off, and its part is the leaf in hand, from f on
-      pub walking-off : (f : ℕ) → f ≤ firstAt parts top + countAt parts top → Walking n parts stack (record { nodes = c .nodes; waiting = c .waiting - 1; met = c .met + 1; at = f; to = firstAt parts top + countAt parts top })
+      pub walking-off : (f : ℕ) → f ≤ firstAt parts top + countAt parts top → Walking n parts stack (afterNode c (c .waiting - 1) f (firstAt parts top + countAt parts top))
       walking-off f l = record {
         room = S .room;
         all = S .all;
@@ -154,7 +154,7 @@ module _ (n : ℕ) (corners : List ℤ) (rings : List ℕ) (boxes : List (List �
 
       -- the top gives way to its two children
       pub walking-cut : (stack′ : List ℕ) → 8 < countAt parts top → Two stack (c .waiting - 1) (childAt parts top + 1) (childAt parts top) stack′
-          → Walking n parts stack′ (record { nodes = c .nodes; waiting = c .waiting - 1 + 2; met = c .met + 1; at = firstAt parts top; to = firstAt parts top })
+          → Walking n parts stack′ (afterNode c (c .waiting - 1 + 2) (firstAt parts top) (firstAt parts top))
       walking-cut stack′ big K = record {
         room = omega (arith, S .room, K .long);
         all = S .all;

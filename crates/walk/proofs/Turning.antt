@@ -14,7 +14,7 @@ use Rattle.index.specs.Build.{Two}
 use Rattle.index.specs.Parts.{firstAt, countAt, childAt}
 use Rattle.index.proofs.Soundness.{edge-in}
 use Rattle.walk.specs.declared.Cursor.{Cursor}
-use Rattle.walk.specs.Steps.{Whether, Inside, Lent, Waiting, MissedTo, LeafFrom, CutInto, left, Sound, Walking, MissedAt, Over, Turned, Advanced, Never, Went, Yields, Ends}
+use Rattle.walk.specs.Steps.{Whether, Inside, Lent, Waiting, MissedTo, LeafFrom, CutInto, afterNode, remaining, Sound, Walking, MissedAt, Over, Turned, Advanced, Never, Went, Yields, Ends}
 use Rattle.walk.proofs.Missing.{part-missed}
 use Rattle.walk.proofs.Standing.{walking-next, walking-end, top-first, not-all-met, top-inside, top-deep, walking-off, walking-cut}
 
@@ -29,6 +29,9 @@ module _ (n : ℕ) (boxes : List (List ℤ)) (parts : List (List ℕ)) (query : 
   abbrev top : ℕ
   top = getD stack (c .waiting - 1) 0
 
+  pub advanced-as : (stack′ : List ℕ) (c′ c″ : Cursor) → c′ ≡ c″ → Advanced n boxes parts query stack c stack′ c″ → Advanced n boxes parts query stack c stack′ c′
+  advanced-as stack′ c′ c″ q A = subst (Advanced n boxes parts query stack c stack′) (sym q) A
+
   pub met-all : c .nodes ≤ c .met → (edges : List ℕ) → Never n boxes parts edges stack c
   met-all m edges corners rings T S = omega (arith, not-all-met n corners rings boxes parts edges T stack c S h e)
 
@@ -39,7 +42,7 @@ module _ (n : ℕ) (boxes : List (List ℤ)) (parts : List (List ℕ)) (query : 
   met-deep b d edges corners rings T S = omega (arith, top-deep n corners rings boxes parts edges T stack c S h e b)
 
   module _ (m : c .met < c .nodes) where
-    pub met-missed : (t : ℕ) → MissedTo boxes parts n (c .nodes) query top t → Advanced n boxes parts query stack c stack (record { nodes = c .nodes; waiting = c .waiting - 1; met = c .met + 1; at = t; to = t })
+    pub met-missed : (t : ℕ) → MissedTo boxes parts n (c .nodes) query top t → Advanced n boxes parts query stack c stack (afterNode c (c .waiting - 1) t t)
     met-missed t M = record {
       same = refl;
       few = omega arith;
@@ -56,7 +59,7 @@ module _ (n : ℕ) (boxes : List (List ℤ)) (parts : List (List ℕ)) (query : 
           };
     }
 
-    pub met-leaf : (f t : ℕ) → LeafFrom parts n (c .nodes) top f t → Advanced n boxes parts query stack c stack (record { nodes = c .nodes; waiting = c .waiting - 1; met = c .met + 1; at = f; to = t })
+    pub met-leaf : (f t : ℕ) → LeafFrom parts n (c .nodes) top f t → Advanced n boxes parts query stack c stack (afterNode c (c .waiting - 1) f t)
     met-leaf f t L = record {
       same = refl;
       few = omega arith;
@@ -73,7 +76,7 @@ module _ (n : ℕ) (boxes : List (List ℤ)) (parts : List (List ℕ)) (query : 
           };
     }
 
-    pub met-cut : (f l : ℕ) (stack′ : List ℕ) → CutInto parts n (c .nodes) top f l → c .waiting - 1 ≤ 16 → Two stack (c .waiting - 1) (l + 1) l stack′ → Advanced n boxes parts query stack c stack′ (record { nodes = c .nodes; waiting = c .waiting - 1 + 2; met = c .met + 1; at = f; to = f })
+    pub met-cut : (f l : ℕ) (stack′ : List ℕ) → CutInto parts n (c .nodes) top f l → c .waiting - 1 ≤ 16 → Two stack (c .waiting - 1) (l + 1) l stack′ → Advanced n boxes parts query stack c stack′ (afterNode c (c .waiting - 1 + 2) f f)
     met-cut f l stack′ C d K = record {
       same = refl;
       few = omega arith;
@@ -98,7 +101,7 @@ module _ (n : ℕ) (boxes : List (List ℤ)) (parts : List (List ℕ)) (edges : 
     pub same : here .nodes ≡ c .nodes
     pub few : here .waiting ≤ 18
     pub inside : here .to ≤ n
-    pub near : left here ≤ left c
+    pub near : remaining here ≤ remaining c
     pub turned : (corners : List ℤ) (rings : List ℕ) → Sound n corners rings boxes parts edges → Walking n parts stack c → Turned n corners rings edges parts query c stack′ here
 
   -- a walk of sound tables is lent enough

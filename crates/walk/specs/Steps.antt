@@ -89,9 +89,13 @@ NodeSays boxes parts n nodes query p (Missed t) = MissedTo boxes parts n nodes q
 NodeSays boxes parts n nodes query p (Leaf f t) = LeafFrom parts n nodes p f t
 NodeSays boxes parts n nodes query p (Cut f l) = CutInto parts n nodes p f l
 
+-- one more node is met
+abbrev pub afterNode : Cursor → ℕ → ℕ → ℕ → Cursor
+afterNode cursor waiting at to = record { nodes = cursor .nodes; waiting = waiting; met = cursor .met + 1; at = at; to = to }
+
 -- how far a walk through any tables is from its end: a leaf has at most 8 places
-abbrev pub left : Cursor → ℕ
-left cursor = 9 * (cursor .nodes - cursor .met) + (cursor .to - cursor .at)
+abbrev pub remaining : Cursor → ℕ
+remaining cursor = 9 * (cursor .nodes - cursor .met) + (cursor .to - cursor .at)
 
 -- ---- on sound tables
 
@@ -152,7 +156,7 @@ pub record Advanced (n : ℕ) (boxes : List (List ℤ)) (parts : List (List ℕ)
   pub inside : cursor′ .to ≤ n
   pub met : cursor′ .met ≡ cursor .met + 1
   pub more : cursor .met < cursor .nodes
-  pub less : left cursor′ < left cursor
+  pub less : remaining cursor′ < remaining cursor
   pub turned : (corners : List ℤ) (rings edges : List ℕ) → Sound n corners rings boxes parts edges → Walking n parts stack cursor → Turned n corners rings edges parts query cursor stack′ cursor′
 
 -- no sound tables with a walk that stands so
@@ -180,7 +184,7 @@ pub record Yields (n : ℕ) (boxes : List (List ℤ)) (parts : List (List ℕ)) 
   pub edge : e < n
   pub lent : Lent n (length stack) (length boxes) (length parts) (length edges) cursor
   pub lent-next : Lent n (length stack′) (length boxes) (length parts) (length edges) cursor′
-  pub less : left cursor′ < left cursor
+  pub less : remaining cursor′ < remaining cursor
   pub went : (corners : List ℤ) (rings : List ℕ) → Sound n corners rings boxes parts edges → Walking n parts stack cursor → Went n corners rings parts edges query cursor stack′ cursor′ e
 
 -- the end: on sound tables every place that is left can be passed over

@@ -3,9 +3,9 @@
 ghost use mathlib.Core.Path.{_≡_};
 ghost use Prim.Native.Nat.{_+_, _<_, _≤_};
 ghost use lib.ListN.{length};
-ghost use Rattle.rules.specs.Nodes.{nodeCount};
+ghost use Rattle.geom.specs.Boxes.{meets};
 ghost use Rattle.index.specs.Build.{Two};
-ghost use Rattle.walk.specs.Steps.{Lent, Whether, Waiting, NodeSays, Begun, TurnSays, Says};
+ghost use Rattle.walk.specs.Steps.{Lent, Whether, Waiting, NodeSays, afterNode, Begun, TurnSays, Says};
 use boxes::rect_at;
 use geom::Rect;
 use index::build::LEAF;
@@ -78,6 +78,13 @@ fn lent_enough(
     (cursor.waiting <= STACK) & (cursor.to <= n)
 }
 
+// Whether a node is entered: its box and the rectangle share a point, if only one of their rims.
+fn enters(rect: Rect, query: Rect) -> bool
+    ensures { λ r. ⌜ r ≡ meets rect query ⌝ }
+{
+    rect.intersects(query)
+}
+
 // What node p asks, with every number that it names tested.
 fn node_at(
     boxes: &[[i64; 4]],
@@ -101,17 +108,17 @@ fn node_at(
     if n - first < count {
         return Node::Unsound;
     }
-    if rect_at(boxes, p).intersects(query) {
-        if LEAF < count {
-            let child = parts[p][2];
-            if nodes - 1 <= child {
-                return Node::Unsound;
-            }
-            return Node::Cut(first, child);
-        }
+    if !enters(rect_at(boxes, p), query) {
+        return Node::Missed(first + count);
+    }
+    if count <= LEAF {
         return Node::Leaf(first, first + count);
     }
-    Node::Missed(first + count)
+    let child = parts[p][2];
+    if nodes - 1 <= child {
+        return Node::Unsound;
+    }
+    Node::Cut(first, child)
 }
 
 // Puts two nodes on the stack; the second is met first.
@@ -121,6 +128,20 @@ fn push(stack: &mut [usize], top: usize, below: usize, above: usize)
 {
     stack[top] = below;
     stack[top + 1] = above;
+}
+
+// Where a walk stands when one more node is met.
+fn after_node(cursor: Cursor, waiting: usize, at: usize, to: usize) -> Cursor
+    requires { ⌜ cursor .met < cursor .nodes ⌝ }
+    ensures { λ r. ⌜ r ≡ afterNode cursor waiting at to ⌝ }
+{
+    Cursor {
+        nodes: cursor.nodes,
+        waiting,
+        met: cursor.met + 1,
+        at,
+        to,
+    }
 }
 
 // Takes the top node off the stack: a leaf comes in hand, the children of a cut node wait in its place, left on top, and a node whose
@@ -140,36 +161,17 @@ fn meet_node(
     if nodes <= cursor.met {
         return Turn::Unsound;
     }
-    let met = cursor.met + 1;
     let top = cursor.waiting - 1;
     match node_at(boxes, parts, n, nodes, query, stack[top]) {
         Node::Unsound => Turn::Unsound,
-        Node::Missed(end) => Turn::On(Cursor {
-            nodes,
-            waiting: top,
-            met,
-            at: end,
-            to: end,
-        }),
-        Node::Leaf(first, end) => Turn::On(Cursor {
-            nodes,
-            waiting: top,
-            met,
-            at: first,
-            to: end,
-        }),
+        Node::Missed(end) => Turn::On(after_node(cursor, top, end, end)),
+        Node::Leaf(first, end) => Turn::On(after_node(cursor, top, first, end)),
         Node::Cut(first, left) => {
             if 16 < top {
                 return Turn::Unsound;
             }
             push(stack, top, left + 1, left);
-            Turn::On(Cursor {
-                nodes,
-                waiting: top + 2,
-                met,
-                at: first,
-                to: first,
-            })
+            Turn::On(after_node(cursor, top + 2, first, first))
         }
     }
 }
