@@ -14,7 +14,7 @@ use Rattle.integers.proofs.Signs.{min-one, max-one}
 use Rattle.integers.proofs.Tests.{and-true}
 use Rattle.geom.specs.declared.Point.{Point}
 use Rattle.geom.specs.declared.Rect.{Rect}
-use Rattle.geom.specs.Boxes.{rectOf, unionOf, holdsPoint, holdsRect}
+use Rattle.geom.specs.Boxes.{unionOf, holdsPoint, holdsRect}
 use Rattle.geom.specs.Range.{within}
 use Rattle.geom.proofs.Boxes.{union-left, union-right, union-least, rect-holds-first, rect-holds-second, rect-proper, holds-itself}
 use Rattle.geom.proofs.Range.{near}

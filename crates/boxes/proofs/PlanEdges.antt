@@ -1,6 +1,6 @@
 -- The tables of a sound plan: their ends rise, their corners are in range, and edge i by the tables is the plan's edge i.
 -- Assumes nothing.
-use mathlib.Core.Path.{_≡_, refl, sym, _∙_, ap, ap₂, subst}
+use mathlib.Core.Path.{_≡_, refl, sym, _∙_, ap}
 use mathlib.Core.Bool.{Bool, true, false, cond}
 use mathlib.Core.List.{List, [], _∷_, _++_}
 use Prim.Native.Nat.{ℕ, zero, suc, _+_, _-_, _*_, _≤_, _<_}
@@ -19,7 +19,7 @@ use Rattle.rules.specs.Lists.{partsOf, total}
 use Rattle.rules.specs.Plans.{cornersOf, cornerAt, ringsOf, planInRange}
 use Rattle.rules.specs.Tables.{endsFrom, lengthsFrom, planOf, PlanSound}
 use Rattle.rules.proofs.Corners.{corners-length, near-at, corner-is}
-use Rattle.rules.proofs.Indexed.{tabulate, tabulate-at, tabulate-length, tabulate-part, edgeAt, edges-by-number}
+use Rattle.rules.proofs.Indexed.{tabulate-at, tabulate-length, tabulate-part, edgeAt, edges-by-number}
 use Rattle.rules.proofs.Verdicts.{accepted-passes, few, even}
 use Rattle.boxes.proofs.Rings.{next-inside}
 use Rattle.boxes.specs.Rings.{startOf, nextIn, nextFrom, nextCorner, edgeOf, RingEnds, CornersNear}

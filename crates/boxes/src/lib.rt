@@ -1,10 +1,9 @@
 // The ring of an edge, its two corners and its box, and the smallest box round a part of the edge list, over the lent tables of a
 // prepared plan (document 01, items 1 and 9).
 ghost use mathlib.Core.Path.{_≡_};
-ghost use mathlib.Core.List.{[]};
 ghost use Prim.Native.Nat.{_+_, _-_, _*_, _<_, _≤_};
 ghost use lib.ListN.{length, getD, set};
-ghost use Rattle.boxes.specs.Rings.{startOf, nextIn, RingAt, RingEnds, CornersNear};
+ghost use Rattle.boxes.specs.Rings.{startOf, nextIn, RingAt, RingEnds};
 ghost use Rattle.boxes.specs.Boxes.{edgeBox, boxOf, rectAt, rowOf, Names};
 use geom::Point;
 use geom::Rect;
@@ -82,30 +81,30 @@ pub fn edge_box(
     Rect::new(a, b)
 }
 
-/// The smallest box round the edges at the m places from f on of the edge list; the empty box where m is 0.
+/// The smallest box round the edges at the `size` places from `first` on of the edge list; the empty box where there are none.
 pub fn part_box(
     corners: &[i64],
     rings: &[usize],
     edges: &[usize],
     n: usize,
     count: usize,
-    f: usize,
-    m: usize,
+    first: usize,
+    size: usize,
 ) -> Rect
     requires { ⌜ 2 * n ≤ length (now corners) ⌝ }
     requires { ⌜ RingEnds n count (now rings) ⌝ }
-    requires { ⌜ Names n (now edges) f m ⌝ }
-    ensures { λ b. ⌜ b ≡ boxOf (now (corners .entry)) (now (rings .entry)) (now (edges .entry)) f m ⌝ }
+    requires { ⌜ Names n (now edges) first size ⌝ }
+    ensures { λ b. ⌜ b ≡ boxOf (now (corners .entry)) (now (rings .entry)) (now (edges .entry)) first size ⌝ }
 {
-    if m == 0 {
+    if size == 0 {
         return Rect::empty();
     }
-    let first = edges[f];
-    let mut ring = ring_of(rings, count, first);
-    let mut b = edge_box(corners, rings, n, count, ring, first);
+    let edge = edges[first];
+    let mut ring = ring_of(rings, count, edge);
+    let mut b = edge_box(corners, rings, n, count, ring, edge);
     let mut k: usize = 1;
-    while k < m {
-        let e = edges[f + k];
+    while k < size {
+        let e = edges[first + k];
         ring = ring_near(rings, count, e, ring);
         b = b.union(edge_box(corners, rings, n, count, ring, e));
         k += 1;

@@ -1,5 +1,4 @@
 -- A part of a list cut in two by value (document 01, item 5: no key on the left exceeds one on the right).
-use mathlib.Core.Path.{_≡_}
 use mathlib.Core.List.{List}
 use Prim.Native.Nat.{ℕ, _-_, _*_, _≤_, _<_}
 use lib.ListN.{getD}

@@ -1,5 +1,4 @@
 -- The one notion of reordering: a list reached by swaps of two places in a window.
-use mathlib.Core.Path.{_≡_}
 use mathlib.Core.List.{List}
 use Prim.Native.Nat.{ℕ, _≤_, _<_}
 use lib.ListN.{length, getD, set}

@@ -47,25 +47,25 @@ fn packed(key: i64, e: usize) -> usize
     (key + 2199023255552) as usize * 1048576 + e
 }
 
-// Puts packed numbers for the edges of a part.
-fn pack(
+/// Puts packed numbers in the place of the edges of a part.
+pub fn pack(
     corners: &[i64],
     rings: &[usize],
     edges: &mut [usize],
     n: usize,
     count: usize,
     axis: Axis,
-    f: usize,
-    m: usize,
+    first: usize,
+    size: usize,
 )
     requires { ⌜ CornersNear n (now corners) ⌝ }
     requires { ⌜ RingEnds n count (now rings) ⌝ }
-    requires { ⌜ Names n (now edges) f m ⌝ }
-    ensures { λ _. ⌜ Mapped (packedEdge (now (corners .entry)) (now (rings .entry)) axis) f (f + m) (now (edges .entry)) (now (edges .exit)) ⌝ }
+    requires { ⌜ Names n (now edges) first size ⌝ }
+    ensures { λ _. ⌜ Mapped (packedEdge (now (corners .entry)) (now (rings .entry)) axis) first (first + size) (now (edges .entry)) (now (edges .exit)) ⌝ }
 {
-    let end = f + m;
+    let end = first + size;
     let mut ring: usize = 0;
-    let mut i = f;
+    let mut i = first;
     while i < end {
         let e = edges[i];
         ring = ring_near(rings, count, e, ring);
@@ -76,20 +76,20 @@ fn pack(
 }
 
 // Puts the edge numbers back.
-fn unpack(edges: &mut [usize], f: usize, m: usize)
-    requires { ⌜ f + m ≤ length (now edges) ⌝ }
-    ensures { λ _. ⌜ Mapped numberOf f (f + m) (now (edges .entry)) (now (edges .exit)) ⌝ }
+fn unpack(edges: &mut [usize], first: usize, size: usize)
+    requires { ⌜ first + size ≤ length (now edges) ⌝ }
+    ensures { λ _. ⌜ Mapped numberOf first (first + size) (now (edges .entry)) (now (edges .exit)) ⌝ }
 {
-    let end = f + m;
-    let mut i = f;
+    let end = first + size;
+    let mut i = first;
     while i < end {
         edges[i] = edges[i] % 1048576;
         i += 1;
     }
 }
 
-/// Cuts the m places from f on of the edge list at their middle, m / 2 of them on the left: no key on the left exceeds one on the
-/// right.
+/// Cuts the `size` places from `first` on of the edge list at their middle, size / 2 of them on the left: no key on the left exceeds
+/// one on the right.
 pub fn cut_part(
     corners: &[i64],
     rings: &[usize],
@@ -97,16 +97,16 @@ pub fn cut_part(
     n: usize,
     count: usize,
     axis: Axis,
-    f: usize,
-    m: usize,
+    first: usize,
+    size: usize,
 )
     requires { ⌜ CornersNear n (now corners) ⌝ }
     requires { ⌜ RingEnds n count (now rings) ⌝ }
-    requires { ⌜ Names n (now edges) f m ⌝ }
-    requires { ⌜ (0 < m) × (f + m ≤ n) ⌝ }
-    ensures { λ _. ⌜ CutPart (now (corners .entry)) (now (rings .entry)) axis f m (now (edges .entry)) (now (edges .exit)) ⌝ }
+    requires { ⌜ Names n (now edges) first size ⌝ }
+    requires { ⌜ (0 < size) × (first + size ≤ n) ⌝ }
+    ensures { λ _. ⌜ CutPart (now (corners .entry)) (now (rings .entry)) axis first size (now (edges .entry)) (now (edges .exit)) ⌝ }
 {
-    pack(corners, rings, edges, n, count, axis, f, m);
-    crate::selection::select(edges, f, f + m / 2, f + m);
-    unpack(edges, f, m);
+    pack(corners, rings, edges, n, count, axis, first, size);
+    crate::selection::select(edges, first, first + size / 2, first + size);
+    unpack(edges, first, size);
 }

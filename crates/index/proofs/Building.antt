@@ -16,7 +16,7 @@ use Rattle.index.specs.Parts.{firstAt, countAt, partRow, Laid}
 use Rattle.index.specs.Sound.{Smallest}
 use Rattle.index.specs.Build.{Numbered, Two, NodeCut, Built}
 use Rattle.index.proofs.Counts.{node-count-some}
-use Rattle.index.proofs.Growth.{Grows, grows}
+use Rattle.index.proofs.Growth.{grows}
 use Rattle.index.proofs.Shaping.{Shaping, shaping-start, shaping-leaf, shaping-cut, shaped, taken-below, room-for-two, stack-room}
 use Rattle.index.proofs.Ordering.{Ordering, ordering-start, ordering-leaf, ordering-cut, ordered, rect-read}
 

@@ -1,12 +1,12 @@
 -- A list in which each number below n stands once is a reordering of these numbers: every entry is one of them, each has one place, and
 -- a count over the entries is the count over the numbers. Assumes nothing.
-use mathlib.Core.Path.{_≡_, refl, sym, ap, ap₂, _∙_, subst}
+use mathlib.Core.Path.{_≡_, refl, sym, ap, ap₂, _∙_}
 use mathlib.Core.Bool.{Bool, true, false}
 use Prim.Native.Nat.{ℕ, zero, suc, _+_, _*_, _≤_, _<_}
 use native.Mathlib.Decide.{ℕ-discrete, decLt}
 use native.Mathlib.Omega.{arith}
 use borrow.Author.Tests.{eq-eqb, ne-eqb, eqb-true, lt-ltb, le-ltb, ltb-true}
-use lib.Dec.{T, eqb, ltb}
+use lib.Dec.{eqb, ltb}
 use Rattle.rules.proofs.Indexed.{countTo, bit}
 
 -- ---- counts
@@ -128,8 +128,8 @@ module _ (x : ℕ → ℕ) (n : ℕ) (once : (e : ℕ) → e < n → countTo (λ
   pub entry-in : (k : ℕ) → k < n → x k < n
   entry-in k h =
       let all : countTo (λ k. ltb (x k) n) n ≡ n =
-          sym (sum-count (λ k. ltb (x k) n) n) ∙ sum-same (λ k. bit (ltb (x k) n)) (λ k. bit (ltb (x k) n) * 1) n (λ k l. omega arith)
-          ∙ sym (double (λ e. 1) x n n) ∙ sum-same (λ e. 1 * countTo (λ k. eqb (x k) e) n) (λ e. 1) n (λ e l. let o = once e l in omega arith) ∙ sum-ones n in
+      sym (sum-count (λ k. ltb (x k) n) n) ∙ sum-same (λ k. bit (ltb (x k) n)) (λ k. bit (ltb (x k) n) * 1) n (λ k l. omega arith)
+      ∙ sym (double (λ e. 1) x n n) ∙ sum-same (λ e. 1 * countTo (λ k. eqb (x k) e) n) (λ e. 1) n (λ e l. let o = once e l in omega arith) ∙ sum-ones n in
       ltb-true (x k) n (count-all (λ k. ltb (x k) n) n all k h)
 
   -- each number has a place

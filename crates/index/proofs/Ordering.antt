@@ -11,16 +11,15 @@ use lib.ListN.{length, getD, take}
 use Rattle.geom.specs.declared.Rect.{Rect}
 use Rattle.rules.specs.Lists.{countOf}
 use Rattle.boxes.specs.Boxes.{boxOf, rectAt, rowOf, Names}
-use Rattle.cut.specs.declared.keys.Axis.{Axis}
 use Rattle.cut.specs.Keys.{axisOf, CutRule, CutPart}
 use Rattle.cut.specs.Shuffle.{Shuffled}
-use Rattle.cut.proofs.Shuffles.{shuffled-length, shuffled-wider}
+use Rattle.cut.proofs.Shuffles.{shuffled-wider}
 use Rattle.index.specs.Parts.{firstAt, countAt}
 use Rattle.index.specs.Sound.{Smallest}
 use Rattle.index.specs.Build.{Numbered, Two}
 use Rattle.index.proofs.Growth.{Grows}
 use Rattle.index.proofs.Reordered.{Clear, clear-sub, rule-kept, box-kept, count-shuffled, once-numbered}
-use Rattle.index.proofs.Shaping.{Shaping, On, up-two, taken, taken-below, on-pop}
+use Rattle.index.proofs.Shaping.{Shaping, On, up-two, taken-below, on-pop}
 use Rattle.index.proofs.Tables.{names-shuffled}
 
 -- the borders of the part f, m do not run through the part of the node at place q

@@ -17,8 +17,8 @@ use lib.Signed.{_≤ℤ_}
 use Rattle.geom.specs.Boxes.{holdsRect}
 use Rattle.geom.proofs.Boxes.{holds-both}
 use Rattle.rules.specs.Lists.{countOf}
-use Rattle.rules.proofs.Indexed.{tabulate, countTo, bit, tabulate-part, count-tabulate}
-use Rattle.boxes.specs.Boxes.{edgeBox, boxOf, Names}
+use Rattle.rules.proofs.Indexed.{countTo, bit, tabulate-part, count-tabulate}
+use Rattle.boxes.specs.Boxes.{edgeBox, boxOf}
 use Rattle.boxes.proofs.Unions.{box-same}
 use Rattle.boxes.proofs.Leasts.{box-holds, box-within}
 use Rattle.index.specs.Build.{Numbered}

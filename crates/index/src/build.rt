@@ -1,9 +1,8 @@
 // The tables of the hierarchy, built in one pass: a stack of the nodes that are still to be looked at, of which there are never more
 // than 18.
 ghost use mathlib.Core.Path.{_≡_};
-ghost use mathlib.Core.List.{[]};
 ghost use Prim.Native.Nat.{_+_, _<_, _≤_};
-ghost use lib.ListN.{length, getD, set};
+ghost use lib.ListN.{length, set};
 ghost use Rattle.rules.specs.Nodes.{nodeCount};
 ghost use Rattle.boxes.specs.Rings.{RingEnds, CornersNear};
 ghost use Rattle.boxes.specs.Boxes.{rectAt, Names, NearRect};
@@ -48,28 +47,28 @@ fn put_part(parts: &mut [[usize; 3]], p: usize, first: usize, count: usize, chil
     parts[p] = [first, count, child];
 }
 
-// Stores the two parts of node p, which has the places from f on, at the places l and r.
+// Stores the two parts of node p, which has the places from `first` on: the left one at place l, the right one at place r.
 fn put_children(
     boxes: &mut [[i64; 4]],
     parts: &mut [[usize; 3]],
     p: usize,
     l: usize,
     r: usize,
-    f: usize,
+    first: usize,
     half: usize,
     rest: usize,
     left: Rect,
     right: Rect,
 )
     requires { ⌜ (p < length (now parts)) × (l < length (now parts)) × (r < length (now parts)) × (l < length (now boxes)) × (r < length (now boxes)) ⌝ }
-    requires { ⌜ f + (half + rest) ≤ 1048576 ⌝ }
-    ensures { λ _. ⌜ Children (now (boxes .entry)) (now (parts .entry)) p l r f half rest left right (now (boxes .exit)) (now (parts .exit)) ⌝ }
+    requires { ⌜ first + (half + rest) ≤ 1048576 ⌝ }
+    ensures { λ _. ⌜ Children (now (boxes .entry)) (now (parts .entry)) p l r first half rest left right (now (boxes .exit)) (now (parts .exit)) ⌝ }
 {
     put_rect(boxes, l, left);
     put_rect(boxes, r, right);
-    put_part(parts, p, f, half + rest, l);
-    put_part(parts, l, f, half, 0);
-    put_part(parts, r, f + half, rest, 0);
+    put_part(parts, p, first, half + rest, l);
+    put_part(parts, l, first, half, 0);
+    put_part(parts, r, first + half, rest, 0);
 }
 
 // Cuts node p, and puts its two parts at the next free places.
@@ -92,15 +91,16 @@ fn cut_node(
     requires { ⌜ (0 < countAt (now parts) p) × (firstAt (now parts) p + countAt (now parts) p ≤ n) ⌝ }
     ensures { λ _. ⌜ NodeCut (now (corners .entry)) (now (rings .entry)) (now (boxes .entry)) (now (parts .entry)) (now (edges .entry)) p free (now (boxes .exit)) (now (parts .exit)) (now (edges .exit)) ⌝ }
 {
-    let f = parts[p][0];
-    let m = parts[p][1];
-    let half = m / 2;
-    let rest = m - half;
+    let first = parts[p][0];
+    let size = parts[p][1];
+    let half = size / 2;
+    let rest = size - half;
     let axis = axis_of(rect_at(boxes, p));
-    cut_part(corners, rings, edges, n, count, axis, f, m);
-    let left = part_box(corners, rings, edges, n, count, f, half);
-    let right = part_box(corners, rings, edges, n, count, f + half, rest);
-    put_children(boxes, parts, p, free, free + 1, f, half, rest, left, right);
+    cut_part(corners, rings, edges, n, count, axis, first, size);
+    let left = part_box(corners, rings, edges, n, count, first, half);
+    let right = part_box(corners, rings, edges, n, count, first + half, rest);
+    let next = free + 1;
+    put_children(boxes, parts, p, free, next, first, half, rest, left, right);
 }
 
 /// Builds the index over the n edges of a plan in range, and returns its number of nodes, N(n). With no edges it has one node, round
@@ -129,8 +129,8 @@ pub fn build(
     while 0 < top {
         top -= 1;
         let p = waiting[top];
-        let m = parts[p][1];
-        if LEAF < m {
+        let size = parts[p][1];
+        if LEAF < size {
             cut_node(corners, rings, boxes, parts, edges, n, count, p, free);
             push(&mut waiting, top, free, free + 1);
             top += 2;

@@ -10,6 +10,7 @@ use geom::Point;
 use rules::Kind;
 use rules::Refusal;
 use rules::Verdict;
+use rules::is_list;
 
 /// The most corners that a plan may have.
 pub const MAX_CORNERS: usize = 1048576;
@@ -44,16 +45,6 @@ pub fn all_in_range(coordinates: &[i64]) -> bool
         i += 1;
     }
     true
-}
-
-// Whether a plan's polygon table is looked at: only a list has polygons.
-fn is_list(kind: Kind) -> bool
-    ensures { λ r. ⌜ r ≡ isList kind ⌝ }
-{
-    match kind {
-        Kind::Polygons => true,
-        Kind::Tree => false,
-    }
 }
 
 // Whether the entries of a table sum to n. What is left of n is kept, so that nothing wraps whatever the entries are.

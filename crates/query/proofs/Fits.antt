@@ -1,15 +1,13 @@
 -- From a plan that passes refusals 4 and 3, or tables that are sound, to entries that fit; and from the flags of the calls to their
 -- replies. Assumes nothing.
-use mathlib.Core.Path.{_≡_, refl, sym, _∙_, ap, ap₂, subst}
+use mathlib.Core.Path.{_≡_, refl, sym, _∙_, ap, ap₂}
 use mathlib.Core.Bool.{Bool, true, false, not, cond, _&&_, _||_}
 use mathlib.Core.List.{List, [], _∷_, map}
 use Prim.Native.Nat.{ℕ, zero, suc, _+_, _-_, _*_}
 use native.Mathlib.Omega.{arith}
-use borrow.Author.Tests.{eqb-true}
-use lib.Dec.{T, eqb}
 use lib.IntN.{ℤ}
 use lib.ListN.{length, take, drop}
-use Rattle.integers.proofs.Tests.{not-true, not-false, or-false}
+use Rattle.integers.proofs.Tests.{not-true}
 use Rattle.geom.specs.declared.Point.{Point}
 use Rattle.geom.specs.Range.{inRange, inDoubledRange}
 use Rattle.rules.specs.declared.Kind.{Kind}
@@ -19,7 +17,7 @@ use Rattle.rules.specs.declared.State.{State}
 use Rattle.rules.specs.declared.Verdict.the-variants.{Accepted}
 use Rattle.rules.specs.Edges.{allEdges, onEdge}
 use Rattle.rules.specs.Lists.{anyOf, countOf, partsOf, total, isOdd}
-use Rattle.rules.specs.Plans.{Plan, cornersOf, ringsOf, polygonsOf, isList, uneven, cornerCount, planVerdict, allInRange, planInRange, kindReply, planReply, planHalfReply}
+use Rattle.rules.specs.Plans.{Plan, cornersOf, ringsOf, polygonsOf, planVerdict, allInRange, planInRange, kindReply, planReply, planHalfReply}
 use Rattle.rules.specs.Replies.{crosses, doubled, doubledEdges, halfReply, listReply, treeReply}
 use Rattle.rules.specs.Tables.{endsFrom, lengthsFrom, polygonsIn, planOf, PlanSound}
 use Rattle.rules.proofs.Corners.{near-first}

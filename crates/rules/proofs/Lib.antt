@@ -7,6 +7,7 @@ pub mod FourRays
 pub mod Indexed
 pub mod Nodes
 pub mod RayChoice
+pub mod SmallNumbers
 pub mod Tables
 pub mod Verdicts
 mod Worked

@@ -1,6 +1,7 @@
 // The words of document 01: places, refusals, replies, and the number of each.
 ghost use mathlib.Core.Path.{_≡_};
-ghost use Rattle.rules.specs.Numbers.{locationNumber, tableNumber, refusalNumber, refusalDetail};
+ghost use Rattle.rules.specs.Numbers.{locationNumber, tableNumber, refusalNumber, refusalDetail, replyNumber};
+ghost use Rattle.rules.specs.Plans.{isList};
 
 /// Where a point lies.
 pub enum Location {
@@ -82,6 +83,16 @@ pub enum Ray {
     Down,
 }
 
+/// Whether a plan is a list: only a list has polygons, and only its polygon table is looked at.
+pub fn is_list(kind: Kind) -> bool
+    ensures { λ r. ⌜ r ≡ isList kind ⌝ }
+{
+    match kind {
+        Kind::Polygons => true,
+        Kind::Tree => false,
+    }
+}
+
 /// 0 outside, 1 inside, 2 on the boundary.
 pub fn location_number(location: Location) -> usize
     ensures { λ r. ⌜ r ≡ locationNumber location ⌝ }
@@ -141,5 +152,15 @@ pub fn refusal_detail(refusal: Refusal) -> usize
         Refusal::UndoFull => 0,
         Refusal::NothingToUndo => 0,
         Refusal::Unsound => 0,
+    }
+}
+
+/// A reply as one signed number: the place's, or minus the refusal's.
+pub fn reply_number(reply: Reply) -> i64
+    ensures { λ r. ⌜ r ≡ replyNumber reply ⌝ }
+{
+    match reply {
+        Reply::At(location) => location_number(location) as i64,
+        Reply::Refused(refusal) => 0 - (refusal_number(refusal) as i64),
     }
 }

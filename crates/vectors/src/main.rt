@@ -1,4 +1,4 @@
-// Replays the stored replies of the original (tests/differential/stored; the file stdin is a copy of its plans.txt) and writes how many
+// Replays the stored replies of the original (the file stdin; tests/differential/STORED.md says how it was made) and writes how many
 // of them agree. The counts are written only after the closing -1 was read; an input that breaks off or breaks the format is malformed.
 mod reader;
 mod report;

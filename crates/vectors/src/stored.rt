@@ -1,5 +1,5 @@
 // One line of the stored replies: a plan, its queries, and for each query whether the reply agrees with the stored one
-// (tests/differential/stored/README.md, "Format"). Each part of the plan is read into an array of its own and lent to the rest.
+// (tests/differential/STORED.md). Each part of the plan is read into an array of its own and lent to the rest.
 ghost use mathlib.Core.Path.{_≡_};
 ghost use lib.ListN.{length};
 use crate::reader::Count;

@@ -1,6 +1,6 @@
 //! The replies of the original Rust.
 
-use crate::plan::{DOUBLED_LIMIT, Kind, Mode, Plan, Query, Ring, within};
+use plans::plan::{DOUBLED_LIMIT, Kind, Mode, Plan, Query, Ring, within};
 use polyclip::{Location, Point, PolyNode, PolyTree, Polygon, Preparable, Prepared};
 
 /// The original's replies to points asked of one plan, which is prepared once:

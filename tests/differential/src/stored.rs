@@ -4,10 +4,10 @@
 //! the coordinates; the number of rings and their lengths; the number of polygons and their ring
 //! counts; the number of queries and, for each, its mode, x, y and reply. A last line holds -1.
 
-use crate::generate::{self, Size};
-use crate::named::named_cases;
 use crate::oracle;
-use crate::plan::{Kind, Mode, Plan, Query};
+use plans::generate::{self, Size};
+use plans::named::named_cases;
+use plans::plan::{Kind, Mode, Plan, Query};
 use std::fmt::{self, Display, Formatter};
 
 /// The number of generated cases, after the named ones.
@@ -22,8 +22,10 @@ const MOST_POLYGONS: usize = 64;
 const SIZE: Size = Size {
     corners: 480,
     rings: 48,
-    queries: 32,
 };
+
+/// The points that are asked of each generated plan.
+const QUERIES: usize = 32;
 
 /// How many plans and replies of each sort a stored text holds.
 #[derive(Default)]
@@ -50,7 +52,7 @@ pub fn text(seed: u64) -> (String, Summary) {
         store(&case.plan, &queries);
     }
     for number in 0..GENERATED {
-        let case = generate::case(seed, number, SIZE);
+        let case = generate::case(seed, number, SIZE, QUERIES);
         store(&case.plan, &case.queries);
     }
     text.push_str("-1\n");

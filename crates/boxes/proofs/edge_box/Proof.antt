@@ -7,7 +7,7 @@ use native.Mathlib.Omega.{arith}
 use Rattle.geom.specs.Boxes.{rectOf}
 use Rattle.rules.specs.Plans.{cornerAt}
 use Rattle.boxes.specs.Boxes.{edgeBox}
-use Rattle.boxes.specs.Rings.{edgeOf, nextCorner}
+use Rattle.boxes.specs.Rings.{edgeOf}
 use Rattle.boxes.proofs.Rings.{next-of-ring, next-inside, ring-inside}
 
 corner-at-requires : tie.Need-corner-at-requires

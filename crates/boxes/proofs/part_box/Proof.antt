@@ -23,19 +23,19 @@ empty-requires c κs = search needs
 returns : tie.Need-returns Inv-loop μ-loop
 returns c =
     let a = c .before .before .before .before .args in
-    c .empty .ensures ∙ sym (ap (boxOf (a .corners .now) (a .rings .now) (a .edges .now) (a .f)) (c .before .if1 .taken) ∙ box-none (a .corners .now) (a .rings .now) (a .edges .now) (a .f))
+    c .empty .ensures ∙ sym (ap (boxOf (a .corners .now) (a .rings .now) (a .edges .now) (a .first)) (c .before .if1 .taken) ∙ box-none (a .corners .now) (a .rings .now) (a .edges .now) (a .first))
 
-mul-first : tie.Need-mul-first Inv-loop μ-loop
-mul-first c = search needs
+mul-edge : tie.Need-mul-edge Inv-loop μ-loop
+mul-edge c = search needs
 
-shared-slice-read-first : tie.Need-shared-slice-read-first Inv-loop μ-loop
-shared-slice-read-first c = search needs
+shared-slice-read-edge : tie.Need-shared-slice-read-edge Inv-loop μ-loop
+shared-slice-read-edge c = search needs
 
 ring-of-requires : tie.Need-ring-of-requires Inv-loop μ-loop
 ring-of-requires c κs =
     let s = c .before .before .before .before in
     let a = s .args in
-    searchable (a .n) (a .count) (a .rings .now) (s .pre .1 .0) (getD (a .edges .now) (a .f) 0) (s .pre .1 .1 .each (a .f) (omega arith) (omega arith))
+    searchable (a .n) (a .count) (a .rings .now) (s .pre .1 .0) (getD (a .edges .now) (a .first) 0) (s .pre .1 .1 .each (a .first) (omega arith) (omega arith))
 
 edge-box-requires : tie.Need-edge-box-requires Inv-loop μ-loop
 edge-box-requires c κs =
@@ -45,7 +45,7 @@ edge-box-requires c κs =
 loop-holds : tie.Need-loop-holds Inv-loop μ-loop
 loop-holds c =
     let a = c .before .before .before .before .before .before .args in
-    (omega arith, omega arith, c .before .ring-of .ensures .ring, c .edge-box .ensures ∙ sym (box-one (a .corners .now) (a .rings .now) (a .edges .now) (a .f)))
+    (omega arith, omega arith, c .before .ring-of .ensures .ring, c .edge-box .ensures ∙ sym (box-one (a .corners .now) (a .rings .now) (a .edges .now) (a .first)))
 
 add-e : tie.Need-add-e Inv-loop μ-loop
 add-e c = search needs
@@ -61,7 +61,7 @@ ring-near-requires c κs =
     let s = c .before .before .before .before .before .before .before .before .before in
     let a = s .args in
     let l = c .before .before .loop in
-    let asks = searchable (a .n) (a .count) (a .rings .now) (s .pre .1 .0) (getD (a .edges .now) (a .f + l .k) 0) (s .pre .1 .1 .each (a .f + l .k) (omega arith) (omega arith)) in
+    let asks = searchable (a .n) (a .count) (a .rings .now) (s .pre .1 .0) (getD (a .edges .now) (a .first + l .k) 0) (s .pre .1 .1 .each (a .first + l .k) (omega arith) (omega arith)) in
     (l .inv .2, asks .1, asks .2)
 
 edge-box-requires-2 : tie.Need-edge-box-requires-2 Inv-loop μ-loop
@@ -75,7 +75,7 @@ union-requires c κs = search needs
 add-k : tie.Need-add-k Inv-loop μ-loop
 add-k c =
     let s = c .before .before .before .before .before .before .before .before .before .before .before .before in
-    omega (arith, c .before .before .before .before .loop-test .taken, s .fits .m)
+    omega (arith, c .before .before .before .before .loop-test .taken, s .fits .size)
 
 loop-less : tie.Need-loop-less Inv-loop μ-loop
 loop-less c = search needs
@@ -87,15 +87,15 @@ loop-again c =
       omega arith,
       omega arith,
       c .before .before .ring-near .ensures .ring,
-      c .union .ensures ∙ (λ i. unionOf (l .inv .3 i) (c .before .edge-box2 .ensures i)) ∙ sym (box-more (a .corners .now) (a .rings .now) (a .edges .now) (a .f) (l .k) (l .inv .0)),
+      c .union .ensures ∙ (λ i. unionOf (l .inv .3 i) (c .before .edge-box2 .ensures i)) ∙ sym (box-more (a .corners .now) (a .rings .now) (a .edges .now) (a .first) (l .k) (l .inv .0)),
     )
 
 returns-2 : tie.Need-returns-2 Inv-loop μ-loop
 returns-2 c =
     let a = c .before .before .before .before .before .before .before .before .args in
     let l = c .before .loop in
-    let e : l .k ≡ a .m = omega arith in
-    l .inv .3 ∙ ap (boxOf (a .corners .now) (a .rings .now) (a .edges .now) (a .f)) e
+    let e : l .k ≡ a .size = omega arith in
+    l .inv .3 ∙ ap (boxOf (a .corners .now) (a .rings .now) (a .edges .now) (a .first)) e
 
 pub part-box-spec : {M : Type 1} → statement M
 part-box-spec =
@@ -105,8 +105,8 @@ part-box-spec =
     μ-loop
     empty-requires
     returns
-    mul-first
-    shared-slice-read-first
+    mul-edge
+    shared-slice-read-edge
     ring-of-requires
     edge-box-requires
     loop-holds

@@ -1,8 +1,9 @@
 //! Compares the original with document 01's rules on generated plans: `agree [PLANS] [SEED]`.
 
-use differential::generate::{self, SEED, Size};
-use differential::plan::{Plan, Query};
-use differential::{oracle, reference, stored};
+use differential::{oracle, stored};
+use plans::generate::{self, SEED, Size};
+use plans::plan::{Plan, Query};
+use plans::reference;
 use std::env;
 use std::error::Error;
 use std::process::ExitCode;
@@ -13,8 +14,10 @@ const PLANS: usize = 20_000;
 const SIZE: Size = Size {
     corners: 4_000,
     rings: 200,
-    queries: 64,
 };
+
+/// The points that are asked of each plan.
+const QUERIES: usize = 64;
 
 fn main() -> Result<ExitCode, Box<dyn Error>> {
     let mut arguments = env::args().skip(1);
@@ -22,7 +25,7 @@ fn main() -> Result<ExitCode, Box<dyn Error>> {
     let seed = arguments.next().map_or(Ok(SEED), |seed| seed.parse())?;
     let mut replies = 0;
     for number in 0..plans {
-        let case = generate::case(seed, number, SIZE);
+        let case = generate::case(seed, number, SIZE, QUERIES);
         if let Some(difference) = difference(&case.plan, &case.queries) {
             println!("agree: plan {number} of seed {seed} differs\n{difference}");
             return Ok(ExitCode::FAILURE);

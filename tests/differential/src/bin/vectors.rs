@@ -1,7 +1,7 @@
 //! Writes stored cases with the original's replies: `vectors OUT_FILE [SEED]`.
 
-use differential::generate::SEED;
 use differential::stored;
+use plans::generate::SEED;
 use std::error::Error;
 use std::{env, fs};
 

@@ -1,5 +1,4 @@
 -- `cut::keys::axis_of` meets its contract: the sides of a box in range do not wrap.
-use borrow.Author.Needs.{needs}
 use Rattle.cut.proofs.keys.axis_of.Statement.{statement}
 use Rattle.cut.proofs.keys.axis_of.Tie as tie
 use mathlib.Core.Path.{_≡_, sym, ap, _∙_}

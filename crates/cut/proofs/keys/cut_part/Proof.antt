@@ -40,7 +40,7 @@ returns c =
     let pack = c .before .before .before .before .before .before .before .before .before .before .pack in
     let select = c .before .before .before .before .before .before .select in
     let unpack = c .before .before .unpack in
-    part-cut (a .n) (a .count) (a .f) (a .m) (a .corners .now) (a .rings .now) (a .axis) (a .edges .now) (pack .last .1 .1 .0) (select .last .0) (unpack .last .0) (select .result) (s .pre .0) (s .pre .1 .0) (s .pre .1 .1 .0) (pack .ensures) (select .ensures) (unpack .ensures)
+    part-cut (a .n) (a .count) (a .first) (a .size) (a .corners .now) (a .rings .now) (a .axis) (a .edges .now) (pack .last .1 .1 .0) (select .last .0) (unpack .last .0) (select .result) (s .pre .0) (s .pre .1 .0) (s .pre .1 .1 .0) (pack .ensures) (select .ensures) (unpack .ensures)
 
 pub cut-part-spec : {M : Type 1} → statement M
 cut-part-spec =

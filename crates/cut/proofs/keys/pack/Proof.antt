@@ -2,12 +2,11 @@
 use borrow.Author.Needs.{needs}
 use Rattle.cut.proofs.keys.pack.Statement.{statement}
 use Rattle.cut.proofs.keys.pack.Tie as tie
-use mathlib.Core.Path.{_≡_, sym, ap, _∙_}
+use mathlib.Core.Path.{_≡_, ap, _∙_}
 use native.Mathlib.Omega.{arith}
 use Prim.Native.Nat.{_+_, _-_, _≤_, _<_}
 use lib.ListN.{getD}
-use lib.IntN.{natAbs}
-use Rattle.boxes.specs.Boxes.{NearRect, edgeBox}
+use Rattle.boxes.specs.Boxes.{edgeBox}
 use Rattle.boxes.proofs.Rings.{searchable}
 use Rattle.boxes.proofs.Leasts.{edge-near}
 use Rattle.integers.proofs.Bits.{rd, rd-is}
@@ -29,8 +28,8 @@ loop-holds c =
     let a = s .args in (
       omega arith,
       omega arith,
-      λ some. searchable (a .n) (a .count) (a .rings .now) (s .pre .1 .0) (getD (a .edges .now) (a .f) 0) (s .pre .1 .1 .each (a .f) (omega arith) some) .0,
-      mapped-none (packedEdge (a .corners .now) (a .rings .now) (a .axis)) (a .f) (a .edges .now),
+      λ some. searchable (a .n) (a .count) (a .rings .now) (s .pre .1 .0) (getD (a .edges .now) (a .first) 0) (s .pre .1 .1 .each (a .first) (omega arith) some) .0,
+      mapped-none (packedEdge (a .corners .now) (a .rings .now) (a .axis)) (a .first) (a .edges .now),
     )
 
 mul-e : tie.Need-mul-e Inv-loop μ-loop
@@ -42,7 +41,7 @@ named c =
     let s = c .before .before .before .before in
     let a = s .args in
     let l = c .before .loop in
-    mapped-names (packedEdge (a .corners .now) (a .rings .now) (a .axis)) (a .n) (a .f) (a .m) (l .i) (a .edges .now) (l .edges) (l .inv .3) (s .pre .1 .1) (l .inv .0) (c .loop-test .taken)
+    mapped-names (packedEdge (a .corners .now) (a .rings .now) (a .axis)) (a .n) (a .first) (a .size) (l .i) (a .edges .now) (l .edges) (l .inv .3) (s .pre .1 .1) (l .inv .0) (c .loop-test .taken)
 
 -- the key as it was read
 keyed : (c : tie.After-key-of Inv-loop μ-loop) → let a = c .before .before .before .before .before .before .before .before .args in let l = c .before .before .before .before .before .loop in rd (c .key-of .result) ≡ edgeKey (a .corners .now) (a .rings .now) (a .axis) (getD (l .edges) (l .i) 0)
@@ -102,8 +101,8 @@ loop-again c =
       omega (arith, l .inv .0),
       omega arith,
       λ some. c .before .before .before .ring-near .ensures .ring,
-      mapped-more g (a .f) (l .i) (a .edges .now) (l .edges) (c .packed .result) (l .inv .0) (omega (arith, s .pre .1 .1 .inside))
-          (c .packed .ensures ∙ ap (λ key. packedOf key (getD (l .edges) (l .i) 0)) (keyed (c .before)) ∙ ap g (mapped-next g (a .f) (l .i) (a .edges .now) (l .edges) (l .inv .3))) (l .inv .3),
+      mapped-more g (a .first) (l .i) (a .edges .now) (l .edges) (c .packed .result) (l .inv .0) (omega (arith, s .pre .1 .1 .inside))
+          (c .packed .ensures ∙ ap (λ key. packedOf key (getD (l .edges) (l .i) 0)) (keyed (c .before)) ∙ ap g (mapped-next g (a .first) (l .i) (a .edges .now) (l .edges) (l .inv .3))) (l .inv .3),
     )
 
 same-length : tie.Need-same-length Inv-loop μ-loop
@@ -113,7 +112,7 @@ returns : tie.Need-returns Inv-loop μ-loop
 returns c =
     let a = c .before .before .before .before .args in
     let l = c .before .loop in
-    let e : l .i ≡ a .f + a .m = omega (arith, l .inv .1, c .loop-test .left) in
+    let e : l .i ≡ a .first + a .size = omega (arith, l .inv .1, c .loop-test .left) in
     rw e at (l .inv .3)
 
 pub pack-spec : {M : Type 1} → statement M

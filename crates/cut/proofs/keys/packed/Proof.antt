@@ -1,5 +1,4 @@
 -- `cut::keys::packed` meets its contract: a key of 42 bits, moved above zero, and 20 bits below it.
-use borrow.Author.Needs.{needs}
 use Rattle.cut.proofs.keys.packed.Statement.{statement}
 use Rattle.cut.proofs.keys.packed.Tie as tie
 use mathlib.Core.Path.{ap}

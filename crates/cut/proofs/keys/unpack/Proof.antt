@@ -18,7 +18,7 @@ add-end : tie.Need-add-end Inv-loop μ-loop
 add-end c = search needs
 
 loop-holds : tie.Need-loop-holds Inv-loop μ-loop
-loop-holds c = (omega arith, omega arith, mapped-none numberOf (c .args .f) (c .args .edges .now))
+loop-holds c = (omega arith, omega arith, mapped-none numberOf (c .args .first) (c .args .edges .now))
 
 mul-edges : tie.Need-mul-edges Inv-loop μ-loop
 mul-edges c = search needs
@@ -44,7 +44,7 @@ loop-again c =
     let l = c .before .before .loop in (
       omega arith,
       omega arith,
-      mapped-more numberOf (a .f) (l .i) (a .edges .now) (l .edges) _ (l .inv .0) (omega arith) (ap numberOf (mapped-next numberOf (a .f) (l .i) (a .edges .now) (l .edges) (l .inv .2))) (l .inv .2),
+      mapped-more numberOf (a .first) (l .i) (a .edges .now) (l .edges) _ (l .inv .0) (omega arith) (ap numberOf (mapped-next numberOf (a .first) (l .i) (a .edges .now) (l .edges) (l .inv .2))) (l .inv .2),
     )
 
 same-length : tie.Need-same-length Inv-loop μ-loop
@@ -54,7 +54,7 @@ returns : tie.Need-returns Inv-loop μ-loop
 returns c =
     let a = c .before .before .args in
     let l = c .before .loop in
-    let e : l .i ≡ a .f + a .m = omega arith in
+    let e : l .i ≡ a .first + a .size = omega arith in
     rw e at (l .inv .2)
 
 pub unpack-spec : {M : Type 1} → statement M

@@ -1,5 +1,4 @@
 -- `cut::selection::partition` meets its contract: one turn moves a number that is at most v in front, or leaves it (`Partings`).
-use borrow.Author.Needs.{needs}
 use Rattle.cut.proofs.selection.partition.Statement.{statement}
 use Rattle.cut.proofs.selection.partition.Tie as tie
 use mathlib.Core.Path.{_≡_, refl, _∙_}

@@ -4,7 +4,7 @@ use Rattle.cut.proofs.selection.select.Statement.{statement}
 use Rattle.cut.proofs.selection.select.Tie as tie
 use mathlib.Core.Path.{refl}
 use mathlib.Core.Logic.{⊎-elim}
-use Prim.Native.Nat.{_+_, _-_, _/_, _≤_, _<_}
+use Prim.Native.Nat.{_+_, _-_, _/_, _≤_}
 use native.Mathlib.Omega.{arith}
 use Rattle.cut.proofs.Selectings.{Rounds, selecting-start, reads-bounded, stopped-low, stopped-high, stopped-one, stopped-last, rounds-left, rounds-right}
 

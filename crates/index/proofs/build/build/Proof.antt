@@ -1,13 +1,13 @@
 -- `index::build::build` meets its contract: the state of the tables and the stack (`Building`).
 use Rattle.index.proofs.build.build.Statement.{statement}
 use Rattle.index.proofs.build.build.Tie as tie
-use mathlib.Core.Path.{_≡_, refl, sym, ap, _∙_}
+use mathlib.Core.Path.{_≡_, refl, sym, _∙_}
 use native.Mathlib.Omega.{arith}
 use Rattle.rules.specs.Nodes.{nodeCount}
 use Rattle.index.specs.Parts.{countAt}
 use Rattle.index.proofs.Building.{Building, building-start, building-leaf, building-cut, building-done, rebased, built-from, turn-inside, turn-room, turn-part, turn-names, turn-near}
 use mathlib.Core.List.{List}
-use Prim.Native.Nat.{ℕ, _+_, _-_, _*_, _≤_, _<_}
+use Prim.Native.Nat.{ℕ, _+_, _-_, _*_, _<_}
 use lib.ListN.{length, getD, replicate}
 use borrow.Author.Needs.{needs}
 use Rattle.index.proofs.Counts.{node-count-some, node-count-most}
@@ -53,16 +53,16 @@ mul-p c = omega (arith, c .before .loop .inv .shaping .shallow-stack)
 array-read-p : tie.Need-array-read-p Inv-loop μ-loop
 array-read-p c = omega (arith, c .before .loop .inv .shaping .shallow-stack, c .loop-test .taken)
 
-mul-m : tie.Need-mul-m Inv-loop μ-loop
-mul-m c = let l = c .before .loop in let a = c .before .before .before .before .before .before .before .before .before .before .before .before .before .before .before .before .args in
+mul-size : tie.Need-mul-size Inv-loop μ-loop
+mul-size c = let l = c .before .loop in let a = c .before .before .before .before .before .before .before .before .before .before .before .before .before .before .before .before .args in
     omega (arith, turn-inside (a .n) (a .corners .now) (a .rings .now) _ _ _ (l .boxes) (l .parts) (l .edges) (l .waiting) (l .top) (l .free) (l .inv) (c .loop-test .taken), l .inv .frame, l .inv .parts-reach, c .before .before .before .before .before .before .before .before .before .before .before .before .before .before .before .before .good)
 
-index-1-m : tie.Need-index-1-m Inv-loop μ-loop
-index-1-m c = let l = c .before .loop in let a = c .before .before .before .before .before .before .before .before .before .before .before .before .before .before .before .before .args in
+index-1-size : tie.Need-index-1-size Inv-loop μ-loop
+index-1-size c = let l = c .before .loop in let a = c .before .before .before .before .before .before .before .before .before .before .before .before .before .before .before .before .args in
     omega (arith, turn-inside (a .n) (a .corners .now) (a .rings .now) _ _ _ (l .boxes) (l .parts) (l .edges) (l .waiting) (l .top) (l .free) (l .inv) (c .loop-test .taken), l .inv .parts-reach)
 
-index-2-m : tie.Need-index-2-m Inv-loop μ-loop
-index-2-m c = search needs
+index-2-size : tie.Need-index-2-size Inv-loop μ-loop
+index-2-size c = search needs
 
 cut-node-requires : tie.Need-cut-node-requires Inv-loop μ-loop
 cut-node-requires c κs =
@@ -156,9 +156,9 @@ build-spec =
     sub-top
     mul-p
     array-read-p
-    mul-m
-    index-1-m
-    index-2-m
+    mul-size
+    index-1-size
+    index-2-size
     cut-node-requires
     slice-aggregate-push
     add-push

@@ -2,31 +2,30 @@
 use borrow.Author.Needs.{needs}
 use Rattle.index.proofs.build.cut_node.Statement.{statement}
 use Rattle.index.proofs.build.cut_node.Tie as tie
-use mathlib.Core.Path.{_≡_, sym, ap, _∙_}
+use mathlib.Core.Path.{ap, _∙_}
 use native.Mathlib.Omega.{arith}
-use Rattle.cut.proofs.Shuffles.{shuffled-length, shuffled-each}
 use Prim.Native.Nat.{_+_, _-_, _/_}
 use Rattle.cut.specs.Keys.{axisOf}
 use Rattle.index.specs.Parts.{firstAt, countAt}
 use Rattle.index.proofs.Tables.{node-cut, names-shuffled}
 
-mul-f : tie.Need-mul-f
-mul-f c = search needs
+mul-first : tie.Need-mul-first
+mul-first c = search needs
 
-index-1-f : tie.Need-index-1-f
-index-1-f c = search needs
+index-1-first : tie.Need-index-1-first
+index-1-first c = search needs
 
-index-2-f : tie.Need-index-2-f
-index-2-f c = search needs
+index-2-first : tie.Need-index-2-first
+index-2-first c = search needs
 
-mul-m : tie.Need-mul-m
-mul-m c = search needs
+mul-size : tie.Need-mul-size
+mul-size c = search needs
 
-index-1-m : tie.Need-index-1-m
-index-1-m c = search needs
+index-1-size : tie.Need-index-1-size
+index-1-size c = search needs
 
-index-2-m : tie.Need-index-2-m
-index-2-m c = search needs
+index-2-size : tie.Need-index-2-size
+index-2-size c = search needs
 
 sub-rest : tie.Need-sub-rest
 sub-rest c = search needs
@@ -57,8 +56,11 @@ part-box-requires-2 c κs =
     let m = countAt (s .args .parts .now) (s .args .p) in
     (s .pre .0 .reach, (s .pre .1 .0, names-shuffled (s .args .n) (s .args .edges .now) _ f m (f + m / 2) _ (s .pre .1 .1 .1 .1 .0) (c .before .before .before .before .before .cut-part .ensures .moved) (omega arith) (omega arith)))
 
-add-put-children : tie.Need-add-put-children
-add-put-children c = let s = c .before .before .before .before .before .before .before .before .before .before .before .before .before .before .before .before .before in let room = s .pre .1 .1 .0 in omega (arith, s .good)
+add-next : tie.Need-add-next
+add-next c =
+    let s = c .before .before .before .before .before .before .before .before .before .before .before .before .before .before .before in
+    let room = s .pre .1 .1 .0 in
+    omega (arith, s .good)
 
 put-children-requires : tie.Need-put-children-requires
 put-children-requires c κs =
@@ -93,12 +95,12 @@ pub cut-node-spec : {M : Type 1} → statement M
 cut-node-spec =
     tie.close
     (tie.spec
-    mul-f
-    index-1-f
-    index-2-f
-    mul-m
-    index-1-m
-    index-2-m
+    mul-first
+    index-1-first
+    index-2-first
+    mul-size
+    index-1-size
+    index-2-size
     sub-rest
     rect-at-requires
     axis-of-requires
@@ -106,7 +108,7 @@ cut-node-spec =
     part-box-requires
     add-part-box
     part-box-requires-2
-    add-put-children
+    add-next
     put-children-requires
     same-length
     same-length-2

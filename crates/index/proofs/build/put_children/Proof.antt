@@ -45,7 +45,7 @@ returns c =
     let part3 = c .before .put-part3 in
     record {
       boxes-are = rect2 .ensures ∙ ap (λ t. set t (a .r) (rowOf (a .right))) (rect .ensures);
-      parts-are = part3 .ensures ∙ ap (λ t. set t (a .r) (partRow (a .f + a .half) (a .rest) 0)) (part2 .ensures ∙ ap (λ t. set t (a .l) (partRow (a .f) (a .half) 0)) (part .ensures));
+      parts-are = part3 .ensures ∙ ap (λ t. set t (a .r) (partRow (a .first + a .half) (a .rest) 0)) (part2 .ensures ∙ ap (λ t. set t (a .l) (partRow (a .first) (a .half) 0)) (part .ensures));
     }
 
 pub put-children-spec : {M : Type 1} → statement M

@@ -9,12 +9,11 @@ use crate::rings::{flat_ring, long_ring, reversed, shifted, simple_ring, small_r
 /// The seed that is taken where none is given.
 pub const SEED: u64 = 20_261_005;
 
-/// How large a case may be. A far outline may come on top of the corners and rings.
+/// How large a plan may be. A far outline may come on top of it.
 #[derive(Clone, Copy)]
 pub struct Size {
     pub corners: usize,
     pub rings: usize,
-    pub queries: usize,
 }
 
 /// A plan and the points to ask of it.
@@ -41,14 +40,19 @@ const FAMILIES: [Family; 12] = [
     tree_of_squares,
 ];
 
-/// The case of a number.
-pub fn case(seed: u64, number: usize, size: Size) -> Case {
+/// The case of a number, with that many points.
+pub fn case(seed: u64, number: usize, size: Size, queries: usize) -> Case {
     let mut random = Random::new(seed, number as u64);
-    let family = FAMILIES[number % FAMILIES.len()];
-    let plan = family(&mut random, size);
-    let plan = placement::place(&mut random, plan);
-    let queries = points::queries(&mut random, &plan, size.queries);
+    let plan = plan(&mut random, number, size);
+    let queries = points::queries(&mut random, &plan, queries);
     Case { plan, queries }
+}
+
+/// A plan of the family whose turn it is.
+pub fn plan(random: &mut Random, number: usize, size: Size) -> Plan {
+    let family = FAMILIES[number % FAMILIES.len()];
+    let plan = family(random, size);
+    placement::place(random, plan)
 }
 
 fn some_grid(random: &mut Random) -> i64 {

@@ -41,14 +41,22 @@ pub fn queries(random: &mut Random, plan: &Plan, count: usize) -> Vec<Query> {
     let doubled = View::of(plan, 2, DOUBLED_LIMIT);
     let query = |_| {
         let (mode, view) = random.pick(&[(Mode::Grid, &grid), (Mode::Doubled, &doubled)]);
-        let (x, y) = random.pick(&MAKERS)(random, view);
-        Query {
-            mode,
-            x: narrow(x),
-            y: narrow(y),
-        }
+        let (x, y) = point(random, view);
+        Query { mode, x, y }
     };
     (0..count).map(query).collect()
+}
+
+/// The given number of points on the grid.
+pub fn grid_points(random: &mut Random, plan: &Plan, count: usize) -> Vec<Point> {
+    let grid = View::of(plan, 1, GRID_LIMIT);
+    (0..count).map(|_| point(random, &grid)).collect()
+}
+
+/// A point of any sort.
+fn point(random: &mut Random, view: &View) -> Point {
+    let (x, y) = random.pick(&MAKERS)(random, view);
+    (narrow(x), narrow(y))
 }
 
 /// The nearest 64-bit coordinate.

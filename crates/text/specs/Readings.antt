@@ -1,0 +1,66 @@
+-- What reading a text answers, and what the lent tables then hold (document 01, item 10, refusals 1, 2 and 11).
+use mathlib.Core.Path.{_≡_}
+use mathlib.Core.Bool.{cond}
+use mathlib.Core.List.{List, _++_}
+use Prim.Native.Nat.{ℕ, _*_}
+use lib.Dec.{ltb}
+use lib.IntN.{ℤ}
+use lib.ListN.{length, drop}
+use Rattle.rules.specs.declared.Kind.the-variants as Kind
+use Rattle.rules.specs.declared.Refusal.the-variants.{TextTooLong, BadLine, TableTooShort}
+use Rattle.rules.specs.declared.Table.the-variants.{Corners, Rings, Polygons}
+use Rattle.rules.specs.Numbers.{refusalNumber, refusalDetail}
+use Rattle.rules.specs.Plans.{Plan}
+use Rattle.text.specs.declared.Size.{Size}
+use Rattle.text.specs.declared.Reading.{Reading}
+use Rattle.text.specs.declared.Reading.the-variants.{Read, Refused}
+use Rattle.text.specs.Plans.{Meaning, Start, Gives, Broken, meaning, sizeOf, emptyPlan}
+
+-- 0 where a plan was read, or the refusal's number
+abbrev pub readingNumber : Reading → ℕ
+readingNumber (Read size) = 0
+readingNumber (Refused refusal) = refusalNumber refusal
+
+-- 2's line, 11's table, and 0 with any other answer; where a plan was read the answer holds its size
+abbrev pub readingDetail : Reading → ℕ
+readingDetail (Read size) = 0
+readingDetail (Refused refusal) = refusalDetail refusal
+
+-- 11: the first table that is too short, of corners (two numbers a corner), rings, polygons
+abbrev pub withRoom : Size → ℕ → ℕ → ℕ → Reading
+withRoom size corners rings polygons =
+    cond (ltb corners (2 * size .corners)) (Refused (TableTooShort Corners))
+    (cond (ltb rings (size .rings)) (Refused (TableTooShort Rings))
+    (cond (ltb polygons (size .polygons)) (Refused (TableTooShort Polygons)) (Read size)))
+
+-- 2 with the first line that breaks a rule, else 11; no text comes to `Start` (`never-start`)
+abbrev pub readingOf : Meaning → ℕ → ℕ → ℕ → Reading
+readingOf Start corners rings polygons = Refused (BadLine 1)
+readingOf (Gives plan) corners rings polygons = withRoom (sizeOf plan) corners rings polygons
+readingOf (Broken line) corners rings polygons = Refused (BadLine line)
+
+-- 1, then 2, then 11, for tables of these lengths
+unfoldable pub reading : List ℕ → ℕ → ℕ → ℕ → Reading
+reading text corners rings polygons = cond (ltb 65536 (length text)) (Refused TextTooLong) (readingOf (meaning text) corners rings polygons)
+
+-- the plan of a text that gives one
+abbrev pub planIn : Meaning → Plan
+planIn Start = emptyPlan Kind.Polygons
+planIn (Gives plan) = plan
+planIn (Broken line) = emptyPlan Kind.Polygons
+
+-- a table with a list at its start and otherwise as it was
+abbrev pub startingWith : {A : Type 0} → List A → List A → List A
+startingWith xs table = xs ++ drop (length xs) table
+
+-- a table after reading
+abbrev pub written : {A : Type 0} → Reading → List A → List A → List A
+written (Read size) xs table = startingWith xs table
+written (Refused refusal) xs table = table
+
+-- answer and tables of `read_plan`
+pub record PlanRead (text : List ℕ) (corners corners' : List ℤ) (lengths lengths' counts counts' : List ℕ) (r : Reading) : Type 0 where
+  pub answer : r ≡ reading text (length corners) (length lengths) (length counts)
+  pub corners-written : corners' ≡ written r (planIn (meaning text) .coordinates) corners
+  pub lengths-written : lengths' ≡ written r (planIn (meaning text) .lengths) lengths
+  pub counts-written : counts' ≡ written r (planIn (meaning text) .counts) counts

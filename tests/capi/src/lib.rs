@@ -1,0 +1,12 @@
+//! The C entry of item 11, and what its answers are compared with.
+//!
+//! [`entry`] calls the library. [`expected`] gives the answers that are due, by a [`reader`] of plan
+//! text written from item 10 alone and by the rules of [`plans`]. [`writer`] makes texts of plans,
+//! [`damage`] breaks them, and [`examples`] holds two of them.
+
+pub mod damage;
+pub mod entry;
+pub mod examples;
+pub mod expected;
+pub mod reader;
+pub mod writer;
