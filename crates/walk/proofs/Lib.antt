@@ -1,0 +1,6 @@
+pub mod Missing
+pub mod Standing
+pub mod Turning
+pub mod Sums
+pub mod Walked
+pub mod Caught

@@ -1,0 +1,199 @@
+-- One node met, and the state of a step. Assumes nothing.
+use mathlib.Core.Path.{_≡_, refl, sym, ap, _∙_, subst}
+use mathlib.Core.Bool.{Bool, true, false, _&&_}
+use mathlib.Core.List.{List, []}
+use Prim.Native.Nat.{ℕ, _+_, _-_, _*_, _≤_, _<_}
+use native.Mathlib.Decide.{decLt}
+use native.Mathlib.Omega.{arith}
+use lib.IntN.{ℤ}
+use lib.ListN.{length, getD}
+use Rattle.geom.specs.declared.Rect.{Rect}
+use Rattle.rules.specs.Nodes.{nodeCount}
+use Rattle.rules.proofs.Indexed.{bit}
+use Rattle.index.specs.Build.{Two}
+use Rattle.index.specs.Parts.{firstAt, countAt, childAt}
+use Rattle.index.proofs.Soundness.{edge-in}
+use Rattle.walk.specs.declared.Cursor.{Cursor}
+use Rattle.walk.specs.Steps.{Whether, Inside, Lent, Waiting, MissedTo, LeafFrom, CutInto, afterNode, remaining, Sound, Walking, MissedAt, Over, Turned, Advanced, Never, Went, Yields, Ends}
+use Rattle.walk.proofs.Missing.{part-missed}
+use Rattle.walk.proofs.Standing.{walking-next, walking-end, top-first, not-all-met, top-inside, top-deep, walking-off, walking-cut}
+
+-- a flag made of two tests
+pub whether-both : (A : Type 0) (a b : Bool) → (a ≡ true → b ≡ true → A) → (A → a ≡ true) → (A → b ≡ true) → Whether A (a && b)
+whether-both A true true f g h = f refl refl
+whether-both A true false f g h = λ x. omega (arith, ap bit (h x))
+whether-both A false b f g h = λ x. omega (arith, ap bit (g x))
+
+-- ---- one node met
+module _ (n : ℕ) (boxes : List (List ℤ)) (parts : List (List ℕ)) (query : Rect) (stack : List ℕ) (c : Cursor) (h : 0 < c .waiting) (few : c .waiting ≤ 18) (e : c .to ≤ c .at) where
+  abbrev top : ℕ
+  top = getD stack (c .waiting - 1) 0
+
+  pub advanced-as : (stack′ : List ℕ) (c′ c″ : Cursor) → c′ ≡ c″ → Advanced n boxes parts query stack c stack′ c″ → Advanced n boxes parts query stack c stack′ c′
+  advanced-as stack′ c′ c″ q A = subst (Advanced n boxes parts query stack c stack′) (sym q) A
+
+  pub met-all : c .nodes ≤ c .met → (edges : List ℕ) → Never n boxes parts edges stack c
+  met-all m edges corners rings T S = omega (arith, not-all-met n corners rings boxes parts edges T stack c S h e)
+
+  pub met-outside : (Inside parts n (c .nodes) top → ⊥) → (edges : List ℕ) → Never n boxes parts edges stack c
+  met-outside f edges corners rings T S = f (top-inside n corners rings boxes parts edges T stack c S h e)
+
+  pub met-deep : 8 < countAt parts top → 16 < c .waiting - 1 → (edges : List ℕ) → Never n boxes parts edges stack c
+  met-deep b d edges corners rings T S = omega (arith, top-deep n corners rings boxes parts edges T stack c S h e b)
+
+  module _ (m : c .met < c .nodes) where
+    pub met-missed : (t : ℕ) → MissedTo boxes parts n (c .nodes) query top t → Advanced n boxes parts query stack c stack (afterNode c (c .waiting - 1) t t)
+    met-missed t M = record {
+      same = refl;
+      few = omega arith;
+      inside = M .fits;
+      met = refl;
+      more = m;
+      less = omega arith;
+      turned = λ corners rings edges T S.
+          let f = top-first n corners rings boxes parts edges T stack c S h e in
+          record {
+            walking = rw (M .to) (walking-off n corners rings boxes parts edges T stack c S h e (firstAt parts top + countAt parts top) (omega arith));
+            on = omega (arith, M .to);
+            over = λ k a b. part-missed n corners rings boxes parts edges (T .index) query top (omega (arith, M .node, S .all)) (M .misses) k (omega arith) (omega (arith, M .to));
+          };
+    }
+
+    pub met-leaf : (f t : ℕ) → LeafFrom parts n (c .nodes) top f t → Advanced n boxes parts query stack c stack (afterNode c (c .waiting - 1) f t)
+    met-leaf f t L = record {
+      same = refl;
+      few = omega arith;
+      inside = L .fits;
+      met = refl;
+      more = m;
+      less = omega (arith, L .from, L .to, L .small);
+      turned = λ corners rings edges T S.
+          let a = top-first n corners rings boxes parts edges T stack c S h e in
+          record {
+            walking = rw (L .to) (walking-off n corners rings boxes parts edges T stack c S h e f (omega (arith, L .from)));
+            on = omega (arith, L .from);
+            over = λ k x y. absurd (omega (arith, L .from));
+          };
+    }
+
+    pub met-cut : (f l : ℕ) (stack′ : List ℕ) → CutInto parts n (c .nodes) top f l → c .waiting - 1 ≤ 16 → Two stack (c .waiting - 1) (l + 1) l stack′ → Advanced n boxes parts query stack c stack′ (afterNode c (c .waiting - 1 + 2) f f)
+    met-cut f l stack′ C d K = record {
+      same = refl;
+      few = omega arith;
+      inside = omega (arith, C .from, C .fits);
+      met = refl;
+      more = m;
+      less = omega arith;
+      turned = λ corners rings edges T S.
+          let a = top-first n corners rings boxes parts edges T stack c S h e in
+          record {
+            walking = rw (C .from) (walking-cut n corners rings boxes parts edges T stack c S h e stack′ (C .big) (subst (λ (l : ℕ). Two stack (c .waiting - 1) (l + 1) l stack′) (C .left) K));
+            on = omega (arith, C .from);
+            over = λ k x y. absurd (omega (arith, C .from));
+          };
+    }
+
+-- ---- the state of a step that began at cursor c over the stack `stack`
+module _ (n : ℕ) (boxes : List (List ℤ)) (parts : List (List ℕ)) (edges : List ℕ) (query : Rect) (stack : List ℕ) (c : Cursor) where
+  pub record Going (stack′ : List ℕ) (here : Cursor) : Type 0 where
+    pub lent : Lent n (length stack) (length boxes) (length parts) (length edges) c
+    pub long : length stack′ ≡ length stack
+    pub same : here .nodes ≡ c .nodes
+    pub few : here .waiting ≤ 18
+    pub inside : here .to ≤ n
+    pub near : remaining here ≤ remaining c
+    pub turned : (corners : List ℤ) (rings : List ℕ) → Sound n corners rings boxes parts edges → Walking n parts stack c → Turned n corners rings edges parts query c stack′ here
+
+  -- a walk of sound tables is lent enough
+  pub never-short : (Lent n (length stack) (length boxes) (length parts) (length edges) c → ⊥) → Never n boxes parts edges stack c
+  never-short f corners rings T S =
+      f (record {
+        stack-reach = S .room;
+        boxes-reach = omega (arith, T .index .boxes-reach, S .all);
+        parts-reach = omega (arith, T .index .parts-reach, S .all);
+        edges-reach = T .index .edges-reach;
+        few-waiting = S .few;
+        inside = S .inside;
+      })
+
+  pub going-start : Lent n (length stack) (length boxes) (length parts) (length edges) c → Going stack c
+  going-start L = record {
+    lent = L;
+    long = refl;
+    same = refl;
+    few = L .few-waiting;
+    inside = L .inside;
+    near = omega arith;
+    turned = λ corners rings T S. record { walking = S; on = omega arith; over = λ k a b. absurd (omega arith) };
+  }
+
+  module _ (stack′ : List ℕ) (here : Cursor) (G : Going stack′ here) where
+    pub going-waits : 0 < here .waiting → here .to ≤ here .at → Waiting n (length stack′) (length boxes) (length parts) here
+    going-waits h e = record {
+      stack-reach = omega (arith, G .lent .stack-reach, G .long);
+      boxes-reach = omega (arith, G .lent .boxes-reach, G .same);
+      parts-reach = omega (arith, G .lent .parts-reach, G .same);
+      few-waiting = G .few;
+      some = h;
+      passed = e;
+    }
+
+    pub going-never : Never n boxes parts edges stack′ here → Never n boxes parts edges stack c
+    going-never f corners rings T S = f corners rings T (G .turned corners rings T S .walking)
+
+    pub going-on : (stack″ : List ℕ) (further : Cursor) → length stack″ ≡ length stack′ → Advanced n boxes parts query stack′ here stack″ further → Going stack″ further
+    going-on stack″ further long A = record {
+      lent = G .lent;
+      long = long ∙ G .long;
+      same = A .same ∙ G .same;
+      few = A .few;
+      inside = A .inside;
+      near = omega (arith, A .less, G .near);
+      turned = λ corners rings T S. both corners rings T S (G .turned corners rings T S);
+    }
+      where
+        both : (corners : List ℤ) (rings : List ℕ) → Sound n corners rings boxes parts edges → Walking n parts stack c → Turned n corners rings edges parts query c stack′ here → Turned n corners rings edges parts query c stack″ further
+        both corners rings T S t =
+            let u = A .turned corners rings edges T (t .walking) in
+            record { walking = u .walking; on = omega (arith, t .on, u .on); over = λ k a b. split t u k a b (decLt k (here .at)) }
+          where
+            split : Turned n corners rings edges parts query c stack′ here → Turned n corners rings edges parts query here stack″ further → (k : ℕ) → c .at ≤ k → k < further .at → Dec (k < here .at) → MissedAt corners rings edges query k
+            split t u k a b (yes l) = t .over k a l
+            split t u k a b (no l) = u .over k (omega arith) b
+
+    pub going-end : here .waiting ≡ 0 → here .to ≤ here .at → Ends n boxes parts edges query stack c
+    going-end z e = record {
+      lent = G .lent;
+      over = λ corners rings T S.
+          let t = G .turned corners rings T S in
+          λ k a b. t .over k a (omega (arith, walking-end n corners rings boxes parts edges T stack′ here (t .walking) z e));
+    }
+
+    pub going-astray : here .at < here .to → n ≤ getD edges (here .at) 0 → Never n boxes parts edges stack c
+    going-astray l a corners rings T S = omega (arith, edge-in n corners rings boxes parts edges (T .index) (here .at) (omega (arith, G .inside)))
+
+    pub going-yields : here .at < here .to → getD edges (here .at) 0 < n → Yields n boxes parts edges query stack c stack′ (getD edges (here .at) 0) (record { nodes = here .nodes; waiting = here .waiting; met = here .met; at = here .at + 1; to = here .to })
+    going-yields l i = record {
+      edge = i;
+      lent = G .lent;
+      lent-next = record {
+        stack-reach = omega (arith, G .lent .stack-reach, G .long);
+        boxes-reach = omega (arith, G .lent .boxes-reach, G .same);
+        parts-reach = omega (arith, G .lent .parts-reach, G .same);
+        edges-reach = G .lent .edges-reach;
+        few-waiting = G .few;
+        inside = G .inside;
+      };
+      less = omega (arith, G .near);
+      went = λ corners rings T S.
+          let t = G .turned corners rings T S in
+          record {
+            place = here .at;
+            next = refl;
+            on = t .on;
+            inside = omega (arith, G .inside);
+            edge = refl;
+            over = t .over;
+            walking = walking-next n corners rings boxes parts edges T stack′ here (t .walking) l;
+          };
+    }

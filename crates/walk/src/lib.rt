@@ -1,0 +1,241 @@
+// The walk through the hierarchy of boxes, as a step that yields the next edge number (document 01, items 5 and 9, refusal 15; `visit`
+// and `ray_segments` of src/prepared.rs). The rectangle stands for the closure of the Rust: whoever asks says what it looks for.
+ghost use mathlib.Core.Path.{_≡_};
+ghost use Prim.Native.Nat.{_+_, _<_, _≤_};
+ghost use lib.ListN.{length};
+ghost use Rattle.geom.specs.Boxes.{meets};
+ghost use Rattle.index.specs.Build.{Two};
+ghost use Rattle.walk.specs.Steps.{Lent, Whether, Waiting, NodeSays, afterNode, Begun, TurnSays, Says};
+use boxes::rect_at;
+use geom::Rect;
+use index::build::LEAF;
+use index::count::node_count;
+
+/// The most nodes that a walk of sound tables keeps waiting, and the least length of the stack that a walk is lent.
+pub const STACK: usize = 18;
+
+/// Where a walk stands: how many nodes the index has, how many of them wait on the stack, how many were met, and the places of the edge
+/// list that are left of the leaf in hand, from `at` up to `to`.
+pub struct Cursor {
+    pub nodes: usize,
+    pub waiting: usize,
+    pub met: usize,
+    pub at: usize,
+    pub to: usize,
+}
+
+/// What a step of a walk gives.
+pub enum Step {
+    /// The next edge number, and where the walk stands after it.
+    Edge(usize, Cursor),
+    /// No edge is left.
+    End,
+    /// 15: a number outside its table, more nodes met than the index has, more than 18 waiting, or a table shorter than the state says.
+    Unsound,
+}
+
+// What a node asks of a walk.
+pub(crate) enum Node {
+    // one of its numbers is outside its table
+    Unsound,
+    // its box misses the rectangle; its part ends at this place
+    Missed(usize),
+    // a leaf, with the places from one to another
+    Leaf(usize, usize),
+    // cut: its part starts at this place, and its left child stands at that one
+    Cut(usize, usize),
+}
+
+// A node met: where the walk stands after it, or 15.
+pub(crate) enum Turn {
+    On(Cursor),
+    Unsound,
+}
+
+// Whether the stack, which has room for so many, and the tables are as long as the state says, and the cursor's numbers within them.
+fn lent_enough(
+    room: usize,
+    boxes: &[[i64; 4]],
+    parts: &[[usize; 3]],
+    edges: &[usize],
+    n: usize,
+    cursor: Cursor,
+) -> bool
+    ensures { λ r. ⌜ Whether (Lent n room (length (now (boxes .entry))) (length (now (parts .entry))) (length (now (edges .entry))) cursor) r ⌝ }
+{
+    if room < STACK {
+        return false;
+    }
+    if boxes.len() < cursor.nodes {
+        return false;
+    }
+    if parts.len() < cursor.nodes {
+        return false;
+    }
+    if edges.len() < n {
+        return false;
+    }
+    (cursor.waiting <= STACK) & (cursor.to <= n)
+}
+
+// Whether a node is entered: its box and the rectangle share a point, if only one of their rims.
+fn enters(rect: Rect, query: Rect) -> bool
+    ensures { λ r. ⌜ r ≡ meets rect query ⌝ }
+{
+    rect.intersects(query)
+}
+
+// What node p asks, with every number that it names tested.
+fn node_at(
+    boxes: &[[i64; 4]],
+    parts: &[[usize; 3]],
+    n: usize,
+    nodes: usize,
+    query: Rect,
+    p: usize,
+) -> Node
+    requires { ⌜ (nodes ≤ length (now boxes)) × (nodes ≤ length (now parts)) ⌝ }
+    ensures { λ r. ⌜ NodeSays (now (boxes .entry)) (now (parts .entry)) n nodes query p r ⌝ }
+{
+    if nodes <= p {
+        return Node::Unsound;
+    }
+    let first = parts[p][0];
+    let count = parts[p][1];
+    if n < first {
+        return Node::Unsound;
+    }
+    if n - first < count {
+        return Node::Unsound;
+    }
+    if !enters(rect_at(boxes, p), query) {
+        return Node::Missed(first + count);
+    }
+    if count <= LEAF {
+        return Node::Leaf(first, first + count);
+    }
+    let child = parts[p][2];
+    if nodes - 1 <= child {
+        return Node::Unsound;
+    }
+    Node::Cut(first, child)
+}
+
+// Puts two nodes on the stack; the second is met first.
+fn push(stack: &mut [usize], top: usize, below: usize, above: usize)
+    requires { ⌜ top + 1 < length (now stack) ⌝ }
+    ensures { λ _. ⌜ Two (now (stack .entry)) top below above (now (stack .exit)) ⌝ }
+{
+    stack[top] = below;
+    stack[top + 1] = above;
+}
+
+// Where a walk stands when one more node is met.
+fn after_node(cursor: Cursor, waiting: usize, at: usize, to: usize) -> Cursor
+    requires { ⌜ cursor .met < cursor .nodes ⌝ }
+    ensures { λ r. ⌜ r ≡ afterNode cursor waiting at to ⌝ }
+{
+    Cursor {
+        nodes: cursor.nodes,
+        waiting,
+        met: cursor.met + 1,
+        at,
+        to,
+    }
+}
+
+// Takes the top node off the stack: a leaf comes in hand, the children of a cut node wait in its place, left on top, and a node whose
+// box misses the rectangle is passed over with all that is below it.
+fn meet_node(
+    stack: &mut [usize],
+    boxes: &[[i64; 4]],
+    parts: &[[usize; 3]],
+    n: usize,
+    query: Rect,
+    cursor: Cursor,
+) -> Turn
+    requires { ⌜ Waiting n (length (now stack)) (length (now boxes)) (length (now parts)) cursor ⌝ }
+    ensures { λ r. ⌜ TurnSays n (now (boxes .entry)) (now (parts .entry)) query (now (stack .entry)) cursor (now (stack .exit)) r ⌝ }
+{
+    let nodes = cursor.nodes;
+    if nodes <= cursor.met {
+        return Turn::Unsound;
+    }
+    let top = cursor.waiting - 1;
+    match node_at(boxes, parts, n, nodes, query, stack[top]) {
+        Node::Unsound => Turn::Unsound,
+        Node::Missed(end) => Turn::On(after_node(cursor, top, end, end)),
+        Node::Leaf(first, end) => Turn::On(after_node(cursor, top, first, end)),
+        Node::Cut(first, left) => {
+            if 16 < top {
+                return Turn::Unsound;
+            }
+            push(stack, top, left + 1, left);
+            Turn::On(after_node(cursor, top + 2, first, first))
+        }
+    }
+}
+
+/// A walk over n edges that has met no node yet. Its stack holds the root's place, 0, at the bottom: an array of zeros will do.
+pub fn start(n: usize) -> Cursor
+    ensures { λ r. ⌜ Begun n r ⌝ }
+{
+    Cursor {
+        nodes: node_count(n),
+        waiting: 1,
+        met: 0,
+        at: 0,
+        to: 0,
+    }
+}
+
+/// The next edge of a walk over a closed rectangle, with the walk after it, or the end. The stack is the caller's and is lent to each
+/// step of the walk; the tables are only read.
+///
+/// On sound tables, with a cursor and a stack as `start` and earlier steps left them, every edge whose box meets the rectangle comes,
+/// none twice, and others may come. Refused with 15 (`Unsound`) where a number leads outside its table, more nodes are met than the
+/// index has, more than 18 would wait, or a table or the stack is too short: never on sound tables.
+pub fn next(
+    stack: &mut [usize],
+    boxes: &[[i64; 4]],
+    parts: &[[usize; 3]],
+    edges: &[usize],
+    n: usize,
+    query: Rect,
+    cursor: Cursor,
+) -> Step
+    ensures { λ r. ⌜ Says n (now (boxes .entry)) (now (parts .entry)) (now (edges .entry)) query (now (stack .entry)) cursor (now (stack .exit)) r ⌝ }
+{
+    if !lent_enough(stack.len(), boxes, parts, edges, n, cursor) {
+        return Step::Unsound;
+    }
+    let mut here = cursor;
+    while here.to <= here.at {
+        if here.waiting == 0 {
+            return Step::End;
+        }
+        match meet_node(stack, boxes, parts, n, query, here) {
+            Turn::Unsound => {
+                return Step::Unsound;
+            }
+            Turn::On(further) => {
+                here = further;
+            }
+        }
+    }
+    let at = here.at;
+    let e = edges[at];
+    if n <= e {
+        return Step::Unsound;
+    }
+    Step::Edge(
+        e,
+        Cursor {
+            nodes: here.nodes,
+            waiting: here.waiting,
+            met: here.met,
+            at: at + 1,
+            to: here.to,
+        },
+    )
+}
