@@ -1,9 +1,9 @@
 -- Wrong walks that the contract rules out, whatever the code is. Each stands on sound tables, with a walk that starts over a stack of
 -- zeros, or on tables too short. Assumes nothing.
-use mathlib.Core.Path.{_≡_, refl, sym, ap, _∙_}
-use mathlib.Core.Bool.{Bool, true, false}
+use mathlib.Core.Path.{_≡_, refl}
+use mathlib.Core.Bool.{true}
 use mathlib.Core.List.{List, [], _∷_}
-use Prim.Native.Nat.{ℕ, suc, _+_, _≤_, _<_}
+use Prim.Native.Nat.{ℕ, suc, _≤_, _<_}
 use native.Mathlib.Omega.{arith}
 use borrow.Author.Tests.{eq-eqb}
 use lib.Dec.{eqb}
@@ -17,7 +17,7 @@ use Rattle.walk.specs.declared.Cursor.{Cursor}
 use Rattle.walk.specs.declared.Step.{Step}
 use Rattle.walk.specs.declared.Step as Step
 use Rattle.walk.specs.declared.Step.the-variants.{Edge, End}
-use Rattle.walk.specs.Steps.{stepNumber, Lent, Sound, Begun, Ends, Yields, Says}
+use Rattle.walk.specs.Steps.{stepNumber, Lent, WalkSound, Begun, Says}
 use Rattle.walk.specs.Walks.{Walked}
 use Rattle.walk.proofs.Walked.{begun, stepped, some-edges, all-met, never-unsound}
 
@@ -28,7 +28,7 @@ short-refused n boxes parts edges query stack c stack′ (Edge e c′) f s = abs
 short-refused n boxes parts edges query stack c stack′ End f s = absurd (f (s .lent))
 short-refused n boxes parts edges query stack c stack′ Step.the-variants.Unsound f s = refl
 
-module _ (n : ℕ) (corners : List ℤ) (rings : List ℕ) (boxes : List (List ℤ)) (parts : List (List ℕ)) (edges : List ℕ) (T : Sound n corners rings boxes parts edges) (query : Rect) (stack : List ℕ) (c : Cursor) where
+module _ (n : ℕ) (corners : List ℤ) (rings : List ℕ) (boxes : List (List ℤ)) (parts : List (List ℕ)) (edges : List ℕ) (T : WalkSound n corners rings boxes parts edges) (query : Rect) (stack : List ℕ) (c : Cursor) where
   module _ (room : 18 ≤ length stack) (root : getD stack 0 0 ≡ 0) (B : Begun n c) where
     -- a walk that answers 15 at once
     pub not-refused-at-once : (stack′ : List ℕ) → Says n boxes parts edges query stack c stack′ Step.the-variants.Unsound → ⊥

@@ -1,7 +1,7 @@
 -- Where a walk of sound tables stands, and how it stands after one node, on lists alone. Assumes nothing.
 use mathlib.Core.Path.{_≡_, refl, sym, ap, _∙_}
 use mathlib.Core.List.{List}
-use Prim.Native.Nat.{ℕ, zero, suc, _+_, _-_, _*_, _/_, _^_, _≤_, _<_}
+use Prim.Native.Nat.{ℕ, zero, suc, _+_, _-_, _/_, _^_, _≤_, _<_}
 use native.Mathlib.Numerals.{add-one}
 use native.Mathlib.Nat.{two-pow-succ}
 use native.Mathlib.Decide.{ℕ-discrete, decLt}
@@ -15,7 +15,7 @@ use Rattle.index.specs.Build.{Two}
 use Rattle.index.proofs.Counts.{node-count-some}
 use Rattle.index.proofs.Soundness.{children-later, part-inside}
 use Rattle.walk.specs.declared.Cursor.{Cursor}
-use Rattle.walk.specs.Steps.{Inside, afterNode, Sound, begin, owed, Walking, Begun}
+use Rattle.walk.specs.Steps.{Inside, afterNode, WalkSound, begin, owed, Walking, Begun}
 
 -- what holds below u, at u and next to it
 up-two : (P : ℕ → Type 0) (u : ℕ) → ((j : ℕ) → j < u → P j) → P u → P (u + 1) → (j : ℕ) → j < u + 2 → P j
@@ -61,7 +61,7 @@ module _ (parts : List (List ℕ)) where
       let e = ap (λ (p : ℕ). nodeCount (countAt parts p)) (f s (omega arith)) in
       omega arith
 
-module _ (n : ℕ) (corners : List ℤ) (rings : List ℕ) (boxes : List (List ℤ)) (parts : List (List ℕ)) (edges : List ℕ) (T : Sound n corners rings boxes parts edges) where
+module _ (n : ℕ) (corners : List ℤ) (rings : List ℕ) (boxes : List (List ℤ)) (parts : List (List ℕ)) (edges : List ℕ) (T : WalkSound n corners rings boxes parts edges) where
   -- the root alone waits
   pub walking-start : (stack : List ℕ) (c : Cursor) → 18 ≤ length stack → getD stack 0 0 ≡ 0 → Begun n c → Walking n parts stack c
   walking-start stack c room root B = record {

@@ -7,11 +7,11 @@ use native.Mathlib.Decide.{ℕ-discrete, decLt}
 use native.Mathlib.Omega.{arith}
 use borrow.Author.Tests.{eq-eqb, ne-eqb, lt-ltb, le-ltb, le-leb, lt-leb}
 use lib.Dec.{eqb, leb, ltb}
-use lib.IntN.{ℤ, pos, negsuc, _+ℤ_, +ℤ-idl, +ℤ-idr, +ℤ-assoc, +ℤ-comm}
+use lib.IntN.{ℤ, pos, negsuc, _+ℤ_, +ℤ-idl, +ℤ-idr, +ℤ-assoc}
 use lib.ListN.{getD}
 use Rattle.integers.proofs.Differences.{_⊖_, pos-⊖, ⊖-add}
 use Rattle.integers.proofs.Order.{+ℤ-left-comm}
-use Rattle.integers.proofs.Tests.{and-none, or-none, or-assoc}
+use Rattle.integers.proofs.Tests.{and-none, or-none}
 use Rattle.rules.proofs.Indexed.{bit, sumTo, countTo, anyTo}
 use Rattle.boxes.specs.Rings.{startOf, RingAt, RingEnds}
 use Rattle.boxes.proofs.Rings.{start-zero, start-suc, one-ring}

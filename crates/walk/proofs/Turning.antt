@@ -1,20 +1,19 @@
 -- One node met, and the state of a step. Assumes nothing.
 use mathlib.Core.Path.{_≡_, refl, sym, ap, _∙_, subst}
 use mathlib.Core.Bool.{Bool, true, false, _&&_}
-use mathlib.Core.List.{List, []}
-use Prim.Native.Nat.{ℕ, _+_, _-_, _*_, _≤_, _<_}
+use mathlib.Core.List.{List}
+use Prim.Native.Nat.{ℕ, _+_, _-_, _≤_, _<_}
 use native.Mathlib.Decide.{decLt}
 use native.Mathlib.Omega.{arith}
 use lib.IntN.{ℤ}
 use lib.ListN.{length, getD}
 use Rattle.geom.specs.declared.Rect.{Rect}
-use Rattle.rules.specs.Nodes.{nodeCount}
 use Rattle.rules.proofs.Indexed.{bit}
 use Rattle.index.specs.Build.{Two}
-use Rattle.index.specs.Parts.{firstAt, countAt, childAt}
+use Rattle.index.specs.Parts.{firstAt, countAt}
 use Rattle.index.proofs.Soundness.{edge-in}
 use Rattle.walk.specs.declared.Cursor.{Cursor}
-use Rattle.walk.specs.Steps.{Whether, Inside, Lent, Waiting, MissedTo, LeafFrom, CutInto, afterNode, remaining, Sound, Walking, MissedAt, Over, Turned, Advanced, Never, Went, Yields, Ends}
+use Rattle.walk.specs.Steps.{Whether, Inside, Lent, Waiting, MissedTo, LeafFrom, CutInto, afterNode, remaining, WalkSound, Walking, MissedAt, Turned, Advanced, Never, Yields, Ends}
 use Rattle.walk.proofs.Missing.{part-missed}
 use Rattle.walk.proofs.Standing.{walking-next, walking-end, top-first, not-all-met, top-inside, top-deep, walking-off, walking-cut}
 
@@ -102,7 +101,7 @@ module _ (n : ℕ) (boxes : List (List ℤ)) (parts : List (List ℕ)) (edges : 
     pub few : here .waiting ≤ 18
     pub inside : here .to ≤ n
     pub near : remaining here ≤ remaining c
-    pub turned : (corners : List ℤ) (rings : List ℕ) → Sound n corners rings boxes parts edges → Walking n parts stack c → Turned n corners rings edges parts query c stack′ here
+    pub turned : (corners : List ℤ) (rings : List ℕ) → WalkSound n corners rings boxes parts edges → Walking n parts stack c → Turned n corners rings edges parts query c stack′ here
 
   -- a walk of sound tables is lent enough
   pub never-short : (Lent n (length stack) (length boxes) (length parts) (length edges) c → ⊥) → Never n boxes parts edges stack c
@@ -128,7 +127,7 @@ module _ (n : ℕ) (boxes : List (List ℤ)) (parts : List (List ℕ)) (edges : 
   }
 
   module _ (stack′ : List ℕ) (here : Cursor) (G : Going stack′ here) where
-    pub going-waits : 0 < here .waiting → here .to ≤ here .at → Waiting n (length stack′) (length boxes) (length parts) here
+    pub going-waits : 0 < here .waiting → here .to ≤ here .at → Waiting (length stack′) (length boxes) (length parts) here
     going-waits h e = record {
       stack-reach = omega (arith, G .lent .stack-reach, G .long);
       boxes-reach = omega (arith, G .lent .boxes-reach, G .same);
@@ -152,7 +151,7 @@ module _ (n : ℕ) (boxes : List (List ℤ)) (parts : List (List ℕ)) (edges : 
       turned = λ corners rings T S. both corners rings T S (G .turned corners rings T S);
     }
       where
-        both : (corners : List ℤ) (rings : List ℕ) → Sound n corners rings boxes parts edges → Walking n parts stack c → Turned n corners rings edges parts query c stack′ here → Turned n corners rings edges parts query c stack″ further
+        both : (corners : List ℤ) (rings : List ℕ) → WalkSound n corners rings boxes parts edges → Walking n parts stack c → Turned n corners rings edges parts query c stack′ here → Turned n corners rings edges parts query c stack″ further
         both corners rings T S t =
             let u = A .turned corners rings edges T (t .walking) in
             record { walking = u .walking; on = omega (arith, t .on, u .on); over = λ k a b. split t u k a b (decLt k (here .at)) }

@@ -1,6 +1,6 @@
 -- Whole walks of sound tables: what a caller's loop carries from `start` through the steps to the end, and that what it adds up over the
 -- edges yielded is what all edges in plan order give. Assumes nothing.
-use mathlib.Core.Path.{_≡_, refl, sym, ap, ap₂, _∙_, subst}
+use mathlib.Core.Path.{_≡_, refl, sym, ap, _∙_, subst}
 use mathlib.Core.Bool.{Bool, true, false, cond, _&&_, _||_}
 use mathlib.Core.List.{List, [], _∷_}
 use Prim.Native.Nat.{ℕ, zero, suc, _+_, _-_, _≤_, _<_}
@@ -8,7 +8,7 @@ use native.Mathlib.Decide.{ℕ-discrete, decLt}
 use native.Mathlib.Omega.{arith}
 use borrow.Author.Tests.{eq-eqb, ne-eqb, eqb-true}
 use lib.Dec.{eqb, ltb}
-use lib.IntN.{ℤ, pos, _+ℤ_, +ℤ-idl, +ℤ-idr, +ℤ-comm}
+use lib.IntN.{ℤ, pos, _+ℤ_, +ℤ-idr, +ℤ-comm}
 use lib.ListN.{length, getD}
 use Rattle.integers.proofs.Tests.{and-none, or-none, not-both}
 use Rattle.geom.specs.declared.Rect.{Rect}
@@ -22,7 +22,7 @@ use Rattle.walk.specs.declared.Cursor.{Cursor}
 use Rattle.walk.specs.declared.Step.{Step}
 use Rattle.walk.specs.declared.Step as Step
 use Rattle.walk.specs.declared.Step.the-variants.{Edge, End}
-use Rattle.walk.specs.Steps.{stepNumber, Sound, Begun, Walking, MissedAt, Over, Never, Went, Yields, Ends, Says}
+use Rattle.walk.specs.Steps.{stepNumber, WalkSound, Begun, Over, Never, Yields, Ends, Says}
 use Rattle.walk.specs.Walks.{Yielded, Walked, SomeEdges, AllMet, inRing}
 use Rattle.walk.specs.Walks.Yielded.{none, over, edge}
 use Rattle.walk.proofs.Standing.{walking-start}
@@ -114,7 +114,7 @@ numbered-once e (suc n) h = go (ℕ-discrete n e) (numbered-once e n)
     go (yes q) ih = omega (arith, numbered-none e n (omega arith), ap bit (eq-eqb n e q))
     go (no d) ih = let r = ih (omega arith) in omega (arith, ap bit (ne-eqb n e d))
 
-module _ (n : ℕ) (corners : List ℤ) (rings : List ℕ) (boxes : List (List ℤ)) (parts : List (List ℕ)) (edges : List ℕ) (T : Sound n corners rings boxes parts edges) (query : Rect) where
+module _ (n : ℕ) (corners : List ℤ) (rings : List ℕ) (boxes : List (List ℤ)) (parts : List (List ℕ)) (edges : List ℕ) (T : WalkSound n corners rings boxes parts edges) (query : Rect) where
   -- ---- from start to end
   pub begun : (stack : List ℕ) (c : Cursor) → 18 ≤ length stack → getD stack 0 0 ≡ 0 → Begun n c → Walked n corners rings parts edges query stack c []
   begun stack c room root B =

@@ -1,7 +1,7 @@
 -- A walk through the hierarchy of boxes, step by step (document 01, items 5 and 9, refusal 15).
 use mathlib.Core.Path.{_≡_}
 use mathlib.Core.Bool.{Bool, true, false}
-use mathlib.Core.List.{List, []}
+use mathlib.Core.List.{List}
 use Prim.Native.Nat.{ℕ, zero, suc, _+_, _-_, _*_, _^_, _≤_, _<_}
 use lib.IntN.{ℤ}
 use lib.ListN.{length, getD}
@@ -47,7 +47,7 @@ pub record Lent (n stack boxes parts edges : ℕ) (cursor : Cursor) : Type 0 whe
   pub inside : cursor .to ≤ n
 
 -- and a node waits while no leaf is in hand
-pub record Waiting (n stack boxes parts : ℕ) (cursor : Cursor) : Type 0 where
+pub record Waiting (stack boxes parts : ℕ) (cursor : Cursor) : Type 0 where
   pub stack-reach : 18 ≤ stack
   pub boxes-reach : cursor .nodes ≤ boxes
   pub parts-reach : cursor .nodes ≤ parts
@@ -100,7 +100,7 @@ remaining cursor = 9 * (cursor .nodes - cursor .met) + (cursor .to - cursor .at)
 -- ---- on sound tables
 
 -- soundness as far as a walk rests on it: the index of a plan under item 1's ceiling
-pub record Sound (n : ℕ) (corners : List ℤ) (rings : List ℕ) (boxes : List (List ℤ)) (parts : List (List ℕ)) (edges : List ℕ) : Type 0 where
+pub record WalkSound (n : ℕ) (corners : List ℤ) (rings : List ℕ) (boxes : List (List ℤ)) (parts : List (List ℕ)) (edges : List ℕ) : Type 0 where
   pub few : n ≤ 1048576
   pub index : IndexSound n corners rings boxes parts edges
 
@@ -157,11 +157,11 @@ pub record Advanced (n : ℕ) (boxes : List (List ℤ)) (parts : List (List ℕ)
   pub met : cursor′ .met ≡ cursor .met + 1
   pub more : cursor .met < cursor .nodes
   pub less : remaining cursor′ < remaining cursor
-  pub turned : (corners : List ℤ) (rings edges : List ℕ) → Sound n corners rings boxes parts edges → Walking n parts stack cursor → Turned n corners rings edges parts query cursor stack′ cursor′
+  pub turned : (corners : List ℤ) (rings edges : List ℕ) → WalkSound n corners rings boxes parts edges → Walking n parts stack cursor → Turned n corners rings edges parts query cursor stack′ cursor′
 
 -- no sound tables with a walk that stands so
 abbrev pub Never : ℕ → List (List ℤ) → List (List ℕ) → List ℕ → List ℕ → Cursor → Type 0
-Never n boxes parts edges stack cursor = (corners : List ℤ) (rings : List ℕ) → Sound n corners rings boxes parts edges → Walking n parts stack cursor → ⊥
+Never n boxes parts edges stack cursor = (corners : List ℤ) (rings : List ℕ) → WalkSound n corners rings boxes parts edges → Walking n parts stack cursor → ⊥
 
 abbrev pub TurnSays : ℕ → List (List ℤ) → List (List ℕ) → Rect → List ℕ → Cursor → List ℕ → Turn → Type 0
 TurnSays n boxes parts query stack cursor stack′ (On cursor′) = Advanced n boxes parts query stack cursor stack′ cursor′
@@ -185,12 +185,12 @@ pub record Yields (n : ℕ) (boxes : List (List ℤ)) (parts : List (List ℕ)) 
   pub lent : Lent n (length stack) (length boxes) (length parts) (length edges) cursor
   pub lent-next : Lent n (length stack′) (length boxes) (length parts) (length edges) cursor′
   pub less : remaining cursor′ < remaining cursor
-  pub went : (corners : List ℤ) (rings : List ℕ) → Sound n corners rings boxes parts edges → Walking n parts stack cursor → Went n corners rings parts edges query cursor stack′ cursor′ e
+  pub went : (corners : List ℤ) (rings : List ℕ) → WalkSound n corners rings boxes parts edges → Walking n parts stack cursor → Went n corners rings parts edges query cursor stack′ cursor′ e
 
 -- the end: on sound tables every place that is left can be passed over
 pub record Ends (n : ℕ) (boxes : List (List ℤ)) (parts : List (List ℕ)) (edges : List ℕ) (query : Rect) (stack : List ℕ) (cursor : Cursor) : Type 0 where
   pub lent : Lent n (length stack) (length boxes) (length parts) (length edges) cursor
-  pub over : (corners : List ℤ) (rings : List ℕ) → Sound n corners rings boxes parts edges → Walking n parts stack cursor → Over corners rings edges query (cursor .at) n
+  pub over : (corners : List ℤ) (rings : List ℕ) → WalkSound n corners rings boxes parts edges → Walking n parts stack cursor → Over corners rings edges query (cursor .at) n
 
 abbrev pub Says : ℕ → List (List ℤ) → List (List ℕ) → List ℕ → Rect → List ℕ → Cursor → List ℕ → Step → Type 0
 Says n boxes parts edges query stack cursor stack′ (Edge e cursor′) = Yields n boxes parts edges query stack cursor stack′ e cursor′

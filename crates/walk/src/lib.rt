@@ -154,7 +154,7 @@ fn meet_node(
     query: Rect,
     cursor: Cursor,
 ) -> Turn
-    requires { ⌜ Waiting n (length (now stack)) (length (now boxes)) (length (now parts)) cursor ⌝ }
+    requires { ⌜ Waiting (length (now stack)) (length (now boxes)) (length (now parts)) cursor ⌝ }
     ensures { λ r. ⌜ TurnSays n (now (boxes .entry)) (now (parts .entry)) query (now (stack .entry)) cursor (now (stack .exit)) r ⌝ }
 {
     let nodes = cursor.nodes;
@@ -167,6 +167,7 @@ fn meet_node(
         Node::Missed(end) => Turn::On(after_node(cursor, top, end, end)),
         Node::Leaf(first, end) => Turn::On(after_node(cursor, top, first, end)),
         Node::Cut(first, left) => {
+            // the two children take the places top and top + 1 of 18
             if 16 < top {
                 return Turn::Unsound;
             }

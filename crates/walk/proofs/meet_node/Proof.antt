@@ -1,10 +1,9 @@
 -- `walk::meet_node` meets its contract.
 use borrow.Author.Needs.{needs}
-use mathlib.Core.Path.{_≡_, refl, sym, ap, _∙_}
-use Prim.Native.Nat.{ℕ, _+_, _-_, _*_, _≤_, _<_}
+use Prim.Native.Nat.{_-_}
 use native.Mathlib.Omega.{arith}
-use lib.ListN.{length, getD}
-use Rattle.walk.specs.Steps.{MissedTo, LeafFrom, CutInto}
+use lib.ListN.{getD}
+use Rattle.walk.specs.Steps.{CutInto}
 use Rattle.walk.proofs.Turning.{advanced-as, met-all, met-outside, met-deep, met-missed, met-leaf, met-cut}
 use Rattle.walk.proofs.meet_node.Statement.{statement}
 use Rattle.walk.proofs.meet_node.Tie as tie

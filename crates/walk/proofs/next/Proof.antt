@@ -1,11 +1,9 @@
 -- `walk::next` meets its contract.
 use borrow.Author.Needs.{needs}
-use mathlib.Core.Path.{_≡_, refl, sym, ap, _∙_}
-use Prim.Native.Nat.{ℕ, _+_, _-_, _*_, _≤_, _<_}
+use Prim.Native.Nat.{_-_}
 use native.Mathlib.Omega.{arith}
-use lib.ListN.{length, getD}
 use Rattle.integers.proofs.Tests.{not-true, not-false}
-use Rattle.walk.specs.Steps.{Lent, Waiting, Advanced, Never}
+use Rattle.walk.specs.Steps.{Advanced}
 use Rattle.walk.proofs.Turning.{Going, never-short, going-start, going-waits, going-never, going-on, going-end, going-astray, going-yields}
 use Rattle.walk.proofs.next.Statement.{statement}
 use Rattle.walk.proofs.next.Tie as tie

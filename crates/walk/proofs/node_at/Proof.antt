@@ -1,6 +1,6 @@
 -- `walk::node_at` meets its contract.
 use borrow.Author.Needs.{needs}
-use mathlib.Core.Path.{_≡_, refl, sym, ap, _∙_}
+use mathlib.Core.Path.{refl, sym, ap, _∙_}
 use native.Mathlib.Omega.{arith}
 use Rattle.integers.proofs.Tests.{not-true}
 use Rattle.geom.specs.Boxes.{meets}
