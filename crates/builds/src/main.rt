@@ -3,7 +3,7 @@
 // of keys there are in all.
 //
 // Without an argument it builds for every n from 0 to 600 and writes sums over them. With one it builds at 589,824 edges, from
-// where on there are 262,143 nodes, and at the ceiling of 1,048,576, whose tables take 42 MB of stack.
+// where on there are 262,143 nodes, and at the ceiling of 1,048,576, whose tables take 40 MB of stack.
 mod keys;
 mod measure;
 
