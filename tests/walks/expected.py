@@ -1,7 +1,8 @@
 #!/usr/bin/env python3
 """What the program `walks` has to write: the index and the walk computed apart, from document 01's items 5 and 9 and refusal 15.
 
-Without an argument for plans of 0 to 120 edges and the damaged tables of 200; with one for plans of 1,048,576 edges."""
+Without an argument for plans of 0 to 120 edges and the damaged tables of 200, or of 40 where the place of every edge is looked for; with
+one for plans of 1,048,576 edges."""
 import sys
 
 LOW, HIGH = -2**63, 2**63 - 1
@@ -59,42 +60,71 @@ def index(points):
     return boxes, parts, order
 
 
-def walk(boxes, parts, edges, n, nodes, query):
-    """How many edges come, and whether the walk ends."""
-    waiting, met, came = [0], 0, 0
+def meeting(box, query):
+    return box[0] <= query[2] and query[0] <= box[2] and box[1] <= query[3] and query[1] <= box[3]
+
+
+def holding(box, query):
+    return all(box[j] <= query[k + j] <= box[j + 2] for j in (0, 1) for k in (0, 2))
+
+
+class Unsound(Exception):
+    """15"""
+
+
+def walk(boxes, parts, edges, n, nodes, enters, query):
+    """The edges that come."""
+    waiting, met = [0], 0
     while waiting:
         if met == nodes:
-            return came, False
+            raise Unsound
         met += 1
         p = waiting.pop()
         if p >= nodes:
-            return came, False
+            raise Unsound
         first, count, child = parts[p]
         if first + count > n:
-            return came, False
-        a, b, c, d = boxes[p]
-        if a > query[2] or query[0] > c or b > query[3] or query[1] > d:
+            raise Unsound
+        if not enters(boxes[p], query):
             continue
         if count > 8:
             if child + 1 >= nodes or len(waiting) > 16:
-                return came, False
+                raise Unsound
             waiting += [child + 1, child]
             continue
         for k in range(first, first + count):
             if edges[k] >= n:
-                return came, False
-            came += 1
-    return came, True
+                raise Unsound
+            yield edges[k]
 
 
-def all_queries(tables, n, nodes):
-    edges = ends = refused = 0
-    for query in QUERIES:
-        came, ended = walk(*tables, n, nodes, query)
-        edges += came
-        ends += ended
-        refused += not ended
-    return edges, ends, refused
+def all_queries(enters):
+    def search(points, tables, nodes):
+        edges = ends = refused = 0
+        for query in QUERIES:
+            try:
+                for _ in walk(*tables, len(points), nodes, enters, query):
+                    edges += 1
+                ends += 1
+            except Unsound:
+                refused += 1
+        return edges, ends, refused
+    return search
+
+
+def all_places(points, tables, nodes):
+    """The places of all edges, and of one that is not there, which is refused."""
+    n, found = len(points), 0
+    for e in range(n):
+        (x, y), (u, v) = points[e], points[(e + 1) % n]
+        try:
+            found += e in walk(*tables, n, nodes, holding, (min(x, u), min(y, v), max(x, u), max(y, v)))
+        except Unsound:
+            pass
+    return found, found, n + 1 - found
+
+
+SEARCHES = {'': all_queries(meeting), ' holding': all_queries(holding), ' places': all_places}
 
 
 def added(tallies):
@@ -105,23 +135,25 @@ def line(name, tally):
     print('%s edges %d ends %d refused %d' % (name, *tally))
 
 
-def filled(name, n):
-    tables = index([SPREADS[name](i) for i in range(n)])
-    return all_queries(tables, n, len(tables[0]))
+def filled(name, n, search):
+    points = [SPREADS[name](i) for i in range(n)]
+    tables = index(points)
+    return SEARCHES[search](points, tables, len(tables[0]))
 
 
-def damaged(name, n):
-    tables = index([SPREADS[name](i) for i in range(n)])
+def damaged(name, n, search):
+    points = [SPREADS[name](i) for i in range(n)]
+    tables = index(points)
     boxes, parts, edges = tables
-    nodes = len(boxes)
 
     def each(row, j, values):
         right = row[j]
         for value in values:
             row[j] = value
-            yield all_queries(tables, n, nodes)
+            yield SEARCHES[search](points, tables, len(boxes))
         row[j] = right
 
+    name += search
     line(name + ' boxes damaged', added(t for row in boxes for j in range(4) for t in each(row, j, COORDINATES)))
     line(name + ' parts damaged', added(t for row in parts for j in range(3) for t in each(row, j, NUMBERS)))
     line(name + ' edges damaged', added(t for k in range(n) for t in each(edges, k, NUMBERS)))
@@ -129,13 +161,15 @@ def damaged(name, n):
 
 def main():
     if len(sys.argv) > 1:
-        for name in SPREADS:
-            line(name, filled(name, 2**20))
+        for search in ('', ' holding'):
+            for name in SPREADS:
+                line(name + search, filled(name, 2**20, search))
         return
-    for name in SPREADS:
-        line(name, added(filled(name, n) for n in range(121)))
-    for name in ('zigzag', 'scattered'):
-        damaged(name, 200)
+    for search, n in (('', 200), (' holding', 200), (' places', 40)):
+        for name in SPREADS:
+            line(name + search, added(filled(name, k, search) for k in range(121)))
+        for name in ('zigzag', 'scattered'):
+            damaged(name, n, search)
 
 
 main()

@@ -2,3 +2,4 @@ pub mod Rings
 pub mod Unions
 pub mod Leasts
 pub mod PlanEdges
+pub mod OneRing

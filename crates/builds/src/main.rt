@@ -1,6 +1,6 @@
 // Builds the index over rings of corners on a line, whose keys are equal, two-valued, sorted, an organ pipe, extreme or doubling, and
-// writes for each how many nodes there are, how often a key is read a level, as a multiple of the number of edges, and how many reads
-// of keys there are in all.
+// writes for each how many nodes there are, how often a key is read a level, as a multiple of the number of edges, how many reads of
+// keys there are in all, how many the builder counted itself, and whether the levels of each build add up to that.
 //
 // Without an argument it builds for every n from 0 to 600 and writes sums over them. With one it builds at 589,824 edges, from
 // where on there are 262,143 nodes, and at the ceiling of 1,048,576, whose tables take 40 MB of stack.
@@ -22,7 +22,13 @@ fn write_measured(measured: Measured) {
     io::print_decimal(STDOUT_FILENO, measured.reads as u64);
     write(b" in all ");
     io::print_decimal(STDOUT_FILENO, measured.all as u64);
-    write(b"\n");
+    write(b" by the builder ");
+    io::print_decimal(STDOUT_FILENO, measured.own as u64);
+    if measured.agree {
+        write(b" agree\n");
+    } else {
+        write(b" differ\n");
+    }
 }
 
 fn write_name(family: Family) {

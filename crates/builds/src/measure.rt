@@ -1,10 +1,11 @@
-// One build, and how often it reads a key a level.
+// One build, how often it reads a key, and how often its cuts do when they are made again, level by level.
 ghost use Prim.Native.Nat.{_<_};
 use crate::keys::Family;
 use crate::keys::fill;
 use cut::keys::Axis;
 use cut::keys::pack;
 use cut::selection::select;
+use index::build::Hierarchy;
 use index::build::build;
 use index::count::node_count;
 
@@ -16,6 +17,10 @@ pub struct Measured {
     pub reads: usize,
     /// The reads of a key in all levels together, as they are counted.
     pub all: usize,
+    /// The reads of a key that the builder counted itself.
+    pub own: usize,
+    /// Whether the levels of every build add up to what the builder counted.
+    pub agree: bool,
 }
 
 // The reads of a key: in the level that has the most, and in all levels together.
@@ -38,43 +43,50 @@ fn greater(a: usize, b: usize) -> usize {
 }
 
 impl Measured {
-    /// The nodes and all reads of both together, and the more reads a level of the two.
+    /// The nodes and all reads of both together, the more reads a level of the two, and whether both agree.
     pub(crate) fn with(self, other: Measured) -> Measured {
         Measured {
             nodes: sum(self.nodes, other.nodes),
             reads: greater(self.reads, other.reads),
             all: sum(self.all, other.all),
+            own: sum(self.own, other.own),
+            agree: self.agree & other.agree,
         }
     }
 }
 
-// Builds the index over one ring of n corners, and puts the packed keys in the place of the edge numbers. Returns the number of nodes,
-// or 0 where a table is too short or a corner out of range, so that the run writes another count than it must.
+// No index.
+fn nothing() -> Hierarchy {
+    Hierarchy { nodes: 0, reads: 0 }
+}
+
+// Builds the index over one ring of n corners, and puts the packed keys in the place of the edge numbers. Returns what the builder
+// counted, or 0 nodes where a table is too short or a corner out of range, so that the run writes another count than it must.
 fn build_packed(
     corners: &[i64],
     boxes: &mut [[i64; 4]],
     parts: &mut [[usize; 3]],
     edges: &mut [usize],
     n: usize,
-) -> usize {
+) -> Hierarchy {
     if 1048576 < n {
-        return 0;
+        return nothing();
     }
     if corners.len() / 2 < n {
-        return 0;
+        return nothing();
     }
     if edges.len() < n {
-        return 0;
+        return nothing();
     }
     let nodes = node_count(n);
     if boxes.len() < nodes {
-        return 0;
+        return nothing();
     }
     if parts.len() < nodes {
-        return 0;
+        return nothing();
     }
     if !plans::all_in_range(corners) {
-        return 0;
+        return nothing();
     }
     let rings: [usize; 1] = [n];
     let built = build(corners, &rings, boxes, parts, edges, n, 1);
@@ -171,6 +183,11 @@ fn reads_of(parts: &[[usize; 3]], values: &mut [usize], levels: &mut [u8], nodes
     counted(reads)
 }
 
+// How often n goes into a number, rounded down; 0 for no n.
+fn share(a: usize, n: usize) -> usize {
+    if n == 0 { 0 } else { a / n }
+}
+
 // Builds over one ring of n corners, counts the nodes, and reads the keys of every level again.
 fn measure(
     corners: &[i64],
@@ -180,19 +197,14 @@ fn measure(
     levels: &mut [u8],
     n: usize,
 ) -> Measured {
-    let nodes = build_packed(corners, boxes, parts, edges, n);
-    let reads = reads_of(parts, edges, levels, nodes);
-    if n == 0 {
-        return Measured {
-            nodes: nodes,
-            reads: 0,
-            all: reads.all,
-        };
-    }
+    let built = build_packed(corners, boxes, parts, edges, n);
+    let reads = reads_of(parts, edges, levels, built.nodes);
     Measured {
-        nodes: nodes,
-        reads: reads.most / n,
+        nodes: built.nodes,
+        reads: share(reads.most, n),
         all: reads.all,
+        own: built.reads,
+        agree: reads.all == built.reads,
     }
 }
 
@@ -224,6 +236,8 @@ pub(crate) fn all_to(
         nodes: 0,
         reads: 0,
         all: 0,
+        own: 0,
+        agree: true,
     };
     let mut n: usize = 0;
     while n < last {

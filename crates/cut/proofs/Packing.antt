@@ -170,7 +170,7 @@ module _ (n count f m : ℕ) (corners : List ℤ) (rings : List ℕ) (axis : Axi
   unfolding edgeKey
   small e h = key-small axis (edgeBox corners rings e) (edge-near n count corners rings C R e h)
 
-  pub part-cut : CutPart corners rings axis f m xs ys
+  pub part-cut : CutPart corners rings axis f m xs ys reads
   unfolding Packed
   part-cut = record {
     moved = shuffled-back (packedEdge corners rings axis) numberOf f (f + m) xs ps qs ys back M (S .moved) U;
@@ -180,4 +180,6 @@ module _ (n count f m : ℕ) (corners : List ℤ) (rings : List ℕ) (axis : Axi
         let ordered = S .ordered j k fj jm mk km in
         rw (U .inside j fj (omega arith), U .inside k (omega arith) km)
         (packed-order (edgeKey corners rings axis (numberOf (getD qs j 0))) (edgeKey corners rings axis (numberOf (getD qs k 0))) (numberOf (getD qs j 0)) (numberOf (getD qs k 0)) (small _ (a .1)) (small _ (b .1)) (omega (arith, a .1, C .few)) (omega (arith, b .1, C .few)) (omega (arith, a .0, b .0)));
+    counted = record { packed = ps; selected = qs; packs = M; selects = S };
+    few = omega (arith, S .few);
   }

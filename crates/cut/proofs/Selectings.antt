@@ -1,5 +1,6 @@
 -- The turns of the bisection, on lists alone. Assumes nothing.
-use mathlib.Core.Path.{_≡_, refl, ap, _∙_}
+use mathlib.Core.Path.{_≡_, refl, sym, ap, _∙_}
+use mathlib.Core.Logic.{_⊎_, inl, inr}
 use mathlib.Core.List.{List}
 use Prim.Native.Nat.{ℕ, suc, _+_, _-_, _*_, _/_, _^_, _≤_, _<_}
 use native.Mathlib.Nat.{two-pow-succ, mul-le-mul-right}
@@ -8,7 +9,8 @@ use native.Mathlib.Omega.{arith}
 use lib.ListN.{length, getD}
 use Rattle.cut.specs.Shuffle.{Shuffled}
 use Rattle.cut.specs.Shuffle.Shuffled.{same}
-use Rattle.cut.specs.Selection.{Each, Wider, Spans, Parted, Ordered, Selected}
+use Rattle.cut.specs.Selection.{Each, Among, Wider, Spans, Parted, Ordered, midway, Bisected, Selected}
+use Rattle.cut.specs.Selection.Bisected.{spanned, lower, upper}
 use Rattle.cut.proofs.Shuffles.{shuffled-length, shuffled-each, shuffled-before, shuffled-after, shuffled-trans, shuffled-wider}
 use Rattle.cut.proofs.Partings.{each-more}
 
@@ -124,38 +126,85 @@ module _ (lo m hi : ℕ) (xs : List ℕ) where
 
 -- ---- the least and the greatest so far
 pub spans-one : (xs : List ℕ) (lo : ℕ) → Spans xs lo (lo + 1) (getD xs lo 0) (getD xs lo 0)
-spans-one xs lo = record { from = λ k l u. let e : k ≡ lo = omega arith in rw e (omega arith); to = λ k l u. let e : k ≡ lo = omega arith in rw e (omega arith) }
+spans-one xs lo = record {
+  from = λ k l u. let e : k ≡ lo = omega arith in rw e (omega arith);
+  to = λ k l u. let e : k ≡ lo = omega arith in rw e (omega arith);
+  least-among = (lo, omega arith, omega arith, refl);
+  greatest-among = (lo, omega arith, omega arith, refl);
+}
 
-pub spans-more : (xs : List ℕ) (lo i a b a′ b′ : ℕ) → Spans xs lo i a b → Wider a b (getD xs i 0) a′ b′ → Spans xs lo (i + 1) a′ b′
-spans-more xs lo i a b a′ b′ S W =
+pub spans-more : (xs : List ℕ) (lo i a b a′ b′ : ℕ) → lo ≤ i → Spans xs lo i a b → Wider a b (getD xs i 0) a′ b′ → Spans xs lo (i + 1) a′ b′
+spans-more xs lo i a b a′ b′ l S W =
     record {
-      from = each-more (λ x. a′ ≤ x) lo i xs (λ k l u. omega (arith, S .from k l u)) (W .from);
-      to = each-more (λ x. x ≤ b′) lo i xs (λ k l u. omega (arith, S .to k l u)) (W .to);
+      from = each-more (λ x. a′ ≤ x) lo i xs (λ k f u. omega (arith, S .from k f u, W .lower)) (omega (arith, W .lower));
+      to = each-more (λ x. x ≤ b′) lo i xs (λ k f u. omega (arith, S .to k f u, W .higher)) (omega (arith, W .higher));
+      least-among = least (decLt (getD xs i 0) a);
+      greatest-among = greatest (decLt b (getD xs i 0));
     }
+  where
+    -- the one that was, or the new one
+    among : (v v′ : ℕ) → Among v lo i xs → v′ ≡ v → Among v′ lo (i + 1) xs
+    among v v′ t is = (t .0, t .1, omega (arith, t .2), t .3 ∙ sym is)
+
+    last : (v′ : ℕ) → v′ ≡ getD xs i 0 → Among v′ lo (i + 1) xs
+    last v′ is = (i, l, omega arith, sym is)
+
+    least : Dec (getD xs i 0 < a) → Among a′ lo (i + 1) xs
+    least (yes h) = last a′ (omega (arith, W .lower))
+    least (no h) = among a a′ (S .least-among) (omega (arith, W .lower))
+
+    greatest : Dec (b < getD xs i 0) → Among b′ lo (i + 1) xs
+    greatest (yes h) = last b′ (omega (arith, W .higher))
+    greatest (no h) = among b b′ (S .greatest-among) (omega (arith, W .higher))
 
 -- ---- the rounds: their number, what is left of the values, and how many numbers were read
 pub record Rounds (lo m hi : ℕ) (xs ys : List ℕ) (p q a b reads round : ℕ) : Type 0 where
   pub state : Selecting lo m hi xs ys p q a b
+  pub bisected : Bisected lo m hi xs ys p q a b round reads
   pub few : round ≤ 64
   pub left : b - a < 2 ^ (64 - round)
   pub read : reads ≤ (round + 1) * (hi - lo)
+
+module _ (lo m hi : ℕ) (xs : List ℕ) where
+  pub rounds-start : (a b : ℕ) → lo < hi → lo ≤ m → m ≤ hi → b < 2 ^ 64 → Spans xs lo hi a b → Rounds lo m hi xs xs lo hi a b (hi - lo) 0
+  rounds-start a b some from to fits S = record {
+    state = selecting-start lo m hi xs a b some from to S;
+    bisected = spanned S;
+    few = omega arith;
+    left = omega arith;
+    read = omega arith;
+  }
 
 module _ (lo m hi : ℕ) (xs ys : List ℕ) (p q a b reads round : ℕ) (R : Rounds lo m hi xs ys p q a b reads round) where
   pub reads-bounded : reads ≤ 65 * (hi - lo)
   reads-bounded = let most : round + 1 ≤ 65 = omega (arith, R .few) in omega (arith, R .read, mul-le-mul-right (hi - lo) most)
 
-  selected : Ordered lo m hi ys → Selected lo m hi xs ys reads
-  selected ordered = record { moved = R .state .moved; ordered = ordered; few = reads-bounded }
+  selected : (m ≤ p) ⊎ (q ≤ m) ⊎ (b ≤ a) → Ordered lo m hi ys → Selected lo m hi xs ys reads
+  selected done ordered = record {
+    moved = R .state .moved;
+    ordered = ordered;
+    counted = record {
+      left = p;
+      right = q;
+      least = a;
+      greatest = b;
+      partitions = round;
+      bisected = R .bisected;
+      rounds = R .few;
+      done = done;
+    };
+    few = reads-bounded;
+  }
 
   -- the four ways to stop
   pub stopped-low : m ≤ p → Selected lo m hi xs ys reads
-  stopped-low h = selected (selected-low lo m hi xs ys p q a b (R .state) h)
+  stopped-low h = selected (inl h) (selected-low lo m hi xs ys p q a b (R .state) h)
 
   pub stopped-high : q ≤ m → Selected lo m hi xs ys reads
-  stopped-high h = selected (selected-high lo m hi xs ys p q a b (R .state) h)
+  stopped-high h = selected (inr (inl h)) (selected-high lo m hi xs ys p q a b (R .state) h)
 
   pub stopped-one : b ≤ a → Selected lo m hi xs ys reads
-  stopped-one h = selected (selected-one lo m hi xs ys p q a b (R .state) h)
+  stopped-one h = selected (inr (inr h)) (selected-one lo m hi xs ys p q a b (R .state) h)
 
   pub stopped-last : 64 ≤ round → Selected lo m hi xs ys reads
   stopped-last h =
@@ -163,24 +212,26 @@ module _ (lo m hi : ℕ) (xs ys : List ℕ) (p q a b reads round : ℕ) (R : Rou
       let none : b - a < 1 = rw e at (R .left) in
       stopped-one (omega arith)
 
-  module _ (zs : List ℕ) (v s : ℕ) (P : Parted p q v ys zs s) (w : hi ≤ length xs) (more : round < 64) (mid : v ≡ a + (b - a) / 2) (some : a < b) where
+  module _ (zs : List ℕ) (s : ℕ) (P : Parted p q (midway a b) ys zs s) (w : hi ≤ length xs) (more : round < 64) (before : p < m) (after : m < q) (some : a < b) where
     read-more : reads + (q - p) ≤ (round + 1 + 1) * (hi - lo)
     read-more = omega (arith, R .read, R .state .from, R .state .left, R .state .right, R .state .to)
 
     half : (b - a) / 2 < 2 ^ (64 - (round + 1))
     half = narrow round (b - a) more (R .left)
 
-    pub rounds-left : m ≤ s → Rounds lo m hi xs zs p s a v (reads + (q - p)) (round + 1)
+    pub rounds-left : m ≤ s → Rounds lo m hi xs zs p s a (midway a b) (reads + (q - p)) (round + 1)
     rounds-left h = record {
-      state = selecting-left lo m hi xs ys zs p q a b v s (R .state) P w (omega arith) (omega arith) h;
+      state = selecting-left lo m hi xs ys zs p q a b (midway a b) s (R .state) P w (omega arith) (omega arith) h;
+      bisected = lower (R .bisected) before after some P h;
       few = omega arith;
       left = omega (arith, half);
       read = read-more;
     }
 
-    pub rounds-right : s < m → Rounds lo m hi xs zs s q (v + 1) b (reads + (q - p)) (round + 1)
+    pub rounds-right : s < m → Rounds lo m hi xs zs s q (midway a b + 1) b (reads + (q - p)) (round + 1)
     rounds-right h = record {
-      state = selecting-right lo m hi xs ys zs p q a b v s (R .state) P w (omega arith) (omega arith) h;
+      state = selecting-right lo m hi xs ys zs p q a b (midway a b) s (R .state) P w (omega arith) (omega arith) h;
+      bisected = upper (R .bisected) before after some P h;
       few = omega arith;
       left = omega (arith, half);
       read = read-more;

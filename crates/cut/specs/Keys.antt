@@ -11,6 +11,7 @@ use Rattle.boxes.specs.Boxes.{edgeBox}
 use Rattle.cut.specs.declared.keys.Axis.{Axis}
 use Rattle.cut.specs.declared.keys.Axis.the-variants.{X, Y}
 use Rattle.cut.specs.Shuffle.{Shuffled}
+use Rattle.cut.specs.Selection.{Selected}
 
 -- x if the node's box is at least as wide as high, else y
 abbrev pub axisOf : Rect → Axis
@@ -30,11 +31,6 @@ abbrev pub CutRule : List ℤ → List ℕ → Axis → ℕ → ℕ → List ℕ
 CutRule corners rings axis f m edges =
     (j k : ℕ) → f ≤ j → j < f + m / 2 → f + m / 2 ≤ k → k < f + m → edgeKey corners rings axis (getD edges j 0) ≤ℤ edgeKey corners rings axis (getD edges k 0)
 
--- the part is cut: a reordering of what it was, by the cut rule
-pub record CutPart (corners : List ℤ) (rings : List ℕ) (axis : Axis) (f m : ℕ) (xs ys : List ℕ) : Type 0 where
-  pub moved : Shuffled f (f + m) xs ys
-  pub rule : CutRule corners rings axis f m ys
-
 -- ---- packed numbers
 
 -- a key, moved above zero, and an edge number of 20 bits below it
@@ -53,3 +49,19 @@ pub record Mapped (g : ℕ → ℕ) (lo hi : ℕ) (xs ys : List ℕ) : Type 0 wh
   pub inside : (k : ℕ) → lo ≤ k → k < hi → getD ys k 0 ≡ g (getD xs k 0)
   pub before : (k : ℕ) → k < lo → getD ys k 0 ≡ getD xs k 0
   pub after : (k : ℕ) → hi ≤ k → getD ys k 0 ≡ getD xs k 0
+
+-- ---- the cut
+
+-- what is read when the part is cut: its packed numbers, by the selection that cuts them
+pub record CutReads (corners : List ℤ) (rings : List ℕ) (axis : Axis) (f m : ℕ) (xs : List ℕ) (reads : ℕ) : Type 0 where
+  pub packed : List ℕ
+  pub selected : List ℕ
+  pub packs : Mapped (packedEdge corners rings axis) f (f + m) xs packed
+  pub selects : Selected f (f + m / 2) (f + m) packed selected reads
+
+-- the part is cut: a reordering of what it was, by the cut rule, with at most 65 reads an edge
+pub record CutPart (corners : List ℤ) (rings : List ℕ) (axis : Axis) (f m : ℕ) (xs ys : List ℕ) (reads : ℕ) : Type 0 where
+  pub moved : Shuffled f (f + m) xs ys
+  pub rule : CutRule corners rings axis f m ys
+  pub counted : CutReads corners rings axis f m xs reads
+  pub few : reads ≤ 65 * m

@@ -91,7 +91,7 @@ fn unpack(edges: &mut [usize], first: usize, size: usize)
 }
 
 /// Cuts the `size` places from `first` on of the edge list at their middle, size / 2 of them on the left: no key on the left exceeds
-/// one on the right.
+/// one on the right. Returns how many keys it compared, at most 65 times the size.
 pub fn cut_part(
     corners: &[i64],
     rings: &[usize],
@@ -101,14 +101,15 @@ pub fn cut_part(
     axis: Axis,
     first: usize,
     size: usize,
-)
+) -> usize
     requires { ⌜ CornersNear n (now corners) ⌝ }
     requires { ⌜ RingEnds n count (now rings) ⌝ }
     requires { ⌜ Names n (now edges) first size ⌝ }
     requires { ⌜ (0 < size) × (first + size ≤ n) ⌝ }
-    ensures { λ _. ⌜ CutPart (now (corners .entry)) (now (rings .entry)) axis first size (now (edges .entry)) (now (edges .exit)) ⌝ }
+    ensures { λ r. ⌜ CutPart (now (corners .entry)) (now (rings .entry)) axis first size (now (edges .entry)) (now (edges .exit)) r ⌝ }
 {
     pack(corners, rings, edges, n, count, axis, first, size);
-    crate::selection::select(edges, first, first + size / 2, first + size);
+    let reads = crate::selection::select(edges, first, first + size / 2, first + size);
     unpack(edges, first, size);
+    reads
 }

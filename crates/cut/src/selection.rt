@@ -4,7 +4,7 @@ ghost use mathlib.Core.Path.{_≡_};
 ghost use Prim.Native.Nat.{_<_, _≤_};
 ghost use lib.ListN.{length};
 ghost use Rattle.cut.specs.Shuffle.{swapped};
-ghost use Rattle.cut.specs.Selection.{Wider, Spans, Parted, Selected};
+ghost use Rattle.cut.specs.Selection.{Wider, SpansRead, PartedRead, Selected};
 
 // Exchanges what stands at i and at j.
 fn swap(values: &mut [usize], i: usize, j: usize)
@@ -43,53 +43,78 @@ fn wider(span: Span, x: usize) -> Span
     span
 }
 
-// The least and the greatest of the numbers at the places from lo to hi, of which there is one.
-fn span_of(values: &[usize], lo: usize, hi: usize) -> Span
+// The span of a part, and how many numbers were compared to find it.
+struct Scan {
+    span: Span,
+    reads: usize,
+}
+
+// The least and the greatest of the numbers at the places from lo to hi, of which there is one. Each number is counted when it is read.
+fn span_of(values: &[usize], lo: usize, hi: usize) -> Scan
     requires { ⌜ (lo < hi) × (hi ≤ length (now values)) ⌝ }
-    ensures { λ r. ⌜ Spans (now (values .entry)) lo hi (r .least) (r .greatest) ⌝ }
+    ensures { λ r. ⌜ SpansRead (now (values .entry)) lo hi (r .span .least) (r .span .greatest) (r .reads) ⌝ }
 {
     let x = values[lo];
     let mut span = Span {
         least: x,
         greatest: x,
     };
+    let mut seen: usize = 1;
     let mut i = lo + 1;
     while i < hi {
         span = wider(span, values[i]);
+        seen += 1;
         i += 1;
     }
-    span
+    Scan {
+        span: span,
+        reads: seen,
+    }
 }
 
-// Moves the numbers of [lo, hi) that are at most v in front of the others, and returns the place of the first other.
-fn partition(values: &mut [usize], lo: usize, hi: usize, v: usize) -> usize
+// Where a partition came to an end, and how many numbers it compared.
+struct Split {
+    // The place of the first number above the value.
+    place: usize,
+    reads: usize,
+}
+
+// Moves the numbers of [lo, hi) that are at most v in front of the others. Each number is counted when it is read to be compared with
+// v; what `swap` reads again to move it is not.
+fn partition(values: &mut [usize], lo: usize, hi: usize, v: usize) -> Split
     requires { ⌜ (lo ≤ hi) × (hi ≤ length (now values)) ⌝ }
-    ensures { λ r. ⌜ Parted lo hi v (now (values .entry)) (now (values .exit)) r ⌝ }
+    ensures { λ r. ⌜ PartedRead lo hi v (now (values .entry)) (now (values .exit)) (r .place) (r .reads) ⌝ }
 {
     let mut s = lo;
+    let mut reads: usize = 0;
     let mut i = lo;
     while i < hi {
+        reads += 1;
         if values[i] <= v {
             swap(values, s, i);
             s += 1;
         }
         i += 1;
     }
-    s
+    Split {
+        place: s,
+        reads: reads,
+    }
 }
 
-/// Reorders [lo, hi) so that no number before `middle` exceeds one from `middle` on, and returns how many numbers it read: at most 65
-/// times the part's length, whatever the numbers are, since each of at most 64 partitions halves the values that are left.
+/// Reorders [lo, hi) so that no number before `middle` exceeds one from `middle` on, and returns how many keys it compared, as its
+/// steps counted them: at most 65 times the part's length, whatever the numbers are, since each of at most 64 partitions halves the
+/// values that are left.
 pub fn select(values: &mut [usize], lo: usize, middle: usize, hi: usize) -> usize
     requires { ⌜ (lo < hi) × (lo ≤ middle) × (middle ≤ hi) × (hi ≤ length (now values)) × (hi ≤ 1048576) ⌝ }
     ensures { λ r. ⌜ Selected lo middle hi (now (values .entry)) (now (values .exit)) r ⌝ }
 {
-    let span = span_of(values, lo, hi);
+    let scan = span_of(values, lo, hi);
     let mut p = lo;
     let mut q = hi;
-    let mut a = span.least;
-    let mut b = span.greatest;
-    let mut reads = hi - lo;
+    let mut a = scan.span.least;
+    let mut b = scan.span.greatest;
+    let mut reads = scan.reads;
     for _ in 0usize..64 {
         if middle <= p {
             return reads;
@@ -101,8 +126,9 @@ pub fn select(values: &mut [usize], lo: usize, middle: usize, hi: usize) -> usiz
             return reads;
         }
         let v = a + (b - a) / 2;
-        reads += q - p;
-        let s = partition(values, p, q, v);
+        let split = partition(values, p, q, v);
+        let s = split.place;
+        reads += split.reads;
         if middle <= s {
             q = s;
             b = v;

@@ -5,6 +5,7 @@ pub mod Growth
 pub mod Shaping
 pub mod Reordered
 pub mod Ordering
+pub mod Readings
 pub mod Building
 pub mod Once
 pub mod Soundness

@@ -92,8 +92,8 @@ module _ (n : ℕ) (corners : List ℤ) (rings : List ℕ) where
         one p (no d) (inl o) = inl (on-pop n parts waiting top free S h p d o)
         one p (no d) (inr i) = inr (λ big. (i big .0, λ j l. i big .1 j (omega arith)))
 
-    module _ (left right : Rect) (boxes′ : List (List ℤ)) (parts′ : List (List ℕ)) (edges′ waiting′ : List ℕ) (big : 8 < countAt parts q)
-        (G : Grows boxes parts q free left right boxes′ parts′) (K : Two waiting (top - 1) free (free + 1) waiting′) (A : CutPart corners rings (axisOf (rectAt boxes q)) (firstAt parts q) (countAt parts q) edges edges′)
+    module _ (left right : Rect) (boxes′ : List (List ℤ)) (parts′ : List (List ℕ)) (edges′ waiting′ : List ℕ) (reads : ℕ) (big : 8 < countAt parts q)
+        (G : Grows boxes parts q free left right boxes′ parts′) (K : Two waiting (top - 1) free (free + 1) waiting′) (A : CutPart corners rings (axisOf (rectAt boxes q)) (firstAt parts q) (countAt parts q) edges edges′ reads)
         (is-left : left ≡ boxOf corners rings edges′ (firstAt parts q) (countAt parts q / 2)) (is-right : right ≡ boxOf corners rings edges′ (firstAt parts q + countAt parts q / 2) (countAt parts q - countAt parts q / 2)) where
       below : q < free
       below = taken-below n parts waiting top free S h

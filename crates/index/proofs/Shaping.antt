@@ -18,30 +18,39 @@ use Rattle.index.specs.Build.{Two}
 use Rattle.index.proofs.Counts.{node-count-some, node-count-three}
 use Rattle.index.proofs.Growth.{Grows}
 
--- ---- what the nodes on the stack will still add
-pub owed : List (List ℕ) → List ℕ → ℕ → ℕ
-owed parts waiting zero = 0
-owed parts waiting (suc s) = owed parts waiting s + (nodeCount (countAt parts (getD waiting s 0)) - 1)
+-- ---- what the nodes on the stack will still add, by what a node of so many edges adds
+pub owed : (ℕ → ℕ) → List (List ℕ) → List ℕ → ℕ → ℕ
+owed adds parts waiting zero = 0
+owed adds parts waiting (suc s) = owed adds parts waiting s + adds (countAt parts (getD waiting s 0))
 
-owed-same : (parts parts′ : List (List ℕ)) (waiting waiting′ : List ℕ) (s : ℕ) → ((j : ℕ) → j < s → countAt parts′ (getD waiting′ j 0) ≡ countAt parts (getD waiting j 0)) → owed parts′ waiting′ s ≡ owed parts waiting s
-unfolding owed
-owed-same parts parts′ waiting waiting′ zero f = refl
-owed-same parts parts′ waiting waiting′ (suc s) f =
-    let e = ap nodeCount (f s (omega arith)) in
-    let ih = owed-same parts parts′ waiting waiting′ s (λ j l. f j (omega arith)) in
-    omega arith
+module _ (adds : ℕ → ℕ) where
+  pub owed-same : (parts parts′ : List (List ℕ)) (waiting waiting′ : List ℕ) (s : ℕ) → ((j : ℕ) → j < s → countAt parts′ (getD waiting′ j 0) ≡ countAt parts (getD waiting j 0)) → owed adds parts′ waiting′ s ≡ owed adds parts waiting s
+  unfolding owed
+  owed-same parts parts′ waiting waiting′ zero f = refl
+  owed-same parts parts′ waiting waiting′ (suc s) f =
+      let e = ap adds (f s (omega arith)) in
+      let ih = owed-same parts parts′ waiting waiting′ s (λ j l. f j (omega arith)) in
+      omega arith
 
-owed-none : (parts : List (List ℕ)) (waiting : List ℕ) → owed parts waiting 0 ≡ 0
-unfolding owed
-owed-none parts waiting = refl
+  pub owed-none : (parts : List (List ℕ)) (waiting : List ℕ) → owed adds parts waiting 0 ≡ 0
+  unfolding owed
+  owed-none parts waiting = refl
 
-owed-one : (parts : List (List ℕ)) (waiting : List ℕ) (s : ℕ) → owed parts waiting (s + 1) ≡ owed parts waiting s + (nodeCount (countAt parts (getD waiting s 0)) - 1)
-unfolding owed
-owed-one parts waiting s = rw add-one
+  pub owed-one : (parts : List (List ℕ)) (waiting : List ℕ) (s : ℕ) → owed adds parts waiting (s + 1) ≡ owed adds parts waiting s + adds (countAt parts (getD waiting s 0))
+  unfolding owed
+  owed-one parts waiting s = rw add-one
 
-owed-two : (parts : List (List ℕ)) (waiting : List ℕ) (s : ℕ) → owed parts waiting (s + 2) ≡ owed parts waiting s + (nodeCount (countAt parts (getD waiting s 0)) - 1) + (nodeCount (countAt parts (getD waiting (s + 1) 0)) - 1)
-unfolding owed
-owed-two parts waiting s = rw (add-two, add-one)
+  pub owed-two : (parts : List (List ℕ)) (waiting : List ℕ) (s : ℕ) → owed adds parts waiting (s + 2) ≡ owed adds parts waiting s + adds (countAt parts (getD waiting s 0)) + adds (countAt parts (getD waiting (s + 1) 0))
+  unfolding owed
+  owed-two parts waiting s = rw (add-two, add-one)
+
+  -- the last of them
+  pub owed-pop : (parts : List (List ℕ)) (waiting : List ℕ) (s : ℕ) → 0 < s → owed adds parts waiting s ≡ owed adds parts waiting (s - 1) + adds (countAt parts (getD waiting (s - 1) 0))
+  owed-pop parts waiting s some = let back : s ≡ s - 1 + 1 = omega arith in ap (owed adds parts waiting) back ∙ owed-one parts waiting (s - 1)
+
+-- the nodes below a node of so many edges
+abbrev pub nodesBelow : ℕ → ℕ
+nodesBelow m = nodeCount m - 1
 
 -- ---- what holds below u, at u and next to it
 pub up-two : (P : ℕ → Type 0) (u : ℕ) → ((p : ℕ) → p < u → P p) → P u → P (u + 1) → (p : ℕ) → p < u + 2 → P p
@@ -118,7 +127,7 @@ pub record Inner (parts : List (List ℕ)) (free p : ℕ) : Type 0 where
 pub record Shaping (n : ℕ) (parts : List (List ℕ)) (waiting : List ℕ) (top free : ℕ) : Type 0 where
   pub some : 0 < free
   pub stack : length waiting ≡ 18
-  pub room : free + owed parts waiting top ≡ nodeCount n
+  pub room : free + owed nodesBelow parts waiting top ≡ nodeCount n
   pub deep : (j : ℕ) → j < top → countAt parts (getD waiting j 0) ≤ 2 ^ (20 - j)
   pub shallow-stack : top ≤ 18
   pub root-first : firstAt parts 0 ≡ 0
@@ -154,8 +163,8 @@ shaping-start n parts waiting few long w0 f0 c0 k0 = record {
     one : (parts′ : List (List ℕ)) (w : ℕ) → (v : ℕ) × Laid parts′ (getD waiting 0 0) 1 v × Chain parts′ waiting 0 v w → Laid parts′ 0 1 w
     one parts′ w k = rw (chain-end parts′ waiting (k .0) w (k .2), w0) at (k .1)
 
-    owed1 : owed parts waiting 1 ≡ nodeCount n - 1
-    owed1 = owed-one parts waiting 0 ∙ rw (w0, c0) (let e : owed parts waiting 0 + (nodeCount n - 1) ≡ nodeCount n - 1 = omega (arith, owed-none parts waiting) in e)
+    owed1 : owed nodesBelow parts waiting 1 ≡ nodeCount n - 1
+    owed1 = owed-one nodesBelow parts waiting 0 ∙ rw (w0, c0) (let e : owed nodesBelow parts waiting 0 + (nodeCount n - 1) ≡ nodeCount n - 1 = omega (arith, owed-none nodesBelow parts waiting) in e)
 
 -- a node's rule stands where the tables agree at the node and at its children
 inner-same : (parts parts′ : List (List ℕ)) (free free′ p : ℕ) → free ≤ free′
@@ -176,18 +185,12 @@ module _ (n : ℕ) (parts : List (List ℕ)) (waiting : List ℕ) (top free : �
   abbrev pub taken : ℕ
   taken = getD waiting (top - 1) 0
 
-  owed-pop : owed parts waiting top ≡ owed parts waiting (top - 1) + (nodeCount (countAt parts taken) - 1)
-  owed-pop = rw (sym back) at (owed-one parts waiting (top - 1))
-    where
-      back : top ≡ top - 1 + 1
-      back = omega arith
-
   pub taken-below : taken < free
   taken-below = S .below (top - 1) (omega arith)
 
   -- there is room for two more where it is cut
   pub room-for-two : 8 < countAt parts taken → free + 2 ≤ nodeCount n
-  room-for-two big = omega (arith, S .room, owed-pop, node-count-three (countAt parts taken) big)
+  room-for-two big = omega (arith, S .room, owed-pop nodesBelow parts waiting top h, node-count-three (countAt parts taken) big)
 
   pub stack-room : 8 < countAt parts taken → top < 18
   stack-room big = let d = shallow (top - 1) (countAt parts taken) big (S .deep (top - 1) (omega arith)) in omega arith
@@ -209,7 +212,7 @@ module _ (n : ℕ) (parts : List (List ℕ)) (waiting : List ℕ) (top free : �
   shaping-leaf small = record {
     some = S .some;
     stack = S .stack;
-    room = omega (arith, S .room, owed-pop, lone);
+    room = omega (arith, S .room, owed-pop nodesBelow parts waiting top h, lone);
     deep = λ j l. S .deep j (omega arith);
     shallow-stack = omega (arith, S .shallow-stack);
     root-first = S .root-first;
@@ -250,20 +253,20 @@ module _ (n : ℕ) (parts : List (List ℕ)) (waiting : List ℕ) (top free : �
             let q : free + 1 ≡ p = sym (K .next) ∙ ap (λ (j : ℕ). getD waiting′ j 0) (sym e) ∙ o .2 in
             absurd (omega arith)
 
-    rest : owed parts′ waiting′ (top - 1) ≡ owed parts waiting (top - 1)
-    rest = owed-same parts parts′ waiting waiting′ (top - 1) (λ j l. rw (K .before j l) (G .count-old (getD waiting j 0) (S .below j (omega arith))))
+    pub owed-rest : (adds : ℕ → ℕ) → owed adds parts′ waiting′ (top - 1) ≡ owed adds parts waiting (top - 1)
+    owed-rest adds = owed-same adds parts parts′ waiting waiting′ (top - 1) (λ j l. rw (K .before j l) (G .count-old (getD waiting j 0) (S .below j (omega arith))))
 
-    w₁ : countAt parts′ (getD waiting′ (top - 1) 0) ≡ countAt parts taken / 2
-    w₁ = rw (K .at) (G .left-count)
+    pub left-on : countAt parts′ (getD waiting′ (top - 1) 0) ≡ countAt parts taken / 2
+    left-on = rw (K .at) (G .left-count)
 
-    w₂ : countAt parts′ (getD waiting′ (top - 1 + 1) 0) ≡ countAt parts taken - countAt parts taken / 2
-    w₂ = rw (K .next) (G .right-count)
+    pub right-on : countAt parts′ (getD waiting′ (top - 1 + 1) 0) ≡ countAt parts taken - countAt parts taken / 2
+    right-on = rw (K .next) (G .right-count)
 
-    room′ : free + 2 + owed parts′ waiting′ (top - 1 + 2) ≡ nodeCount n
+    room′ : free + 2 + owed nodesBelow parts′ waiting′ (top - 1 + 2) ≡ nodeCount n
     room′ =
-        let e₁ = ap nodeCount w₁ in
-        let e₂ = ap nodeCount w₂ in
-        omega (arith, S .room, owed-pop, owed-two parts′ waiting′ (top - 1), rest, node-count-cut (countAt parts taken) big, node-count-some (countAt parts taken / 2), node-count-some (countAt parts taken - countAt parts taken / 2))
+        let e₁ = ap nodeCount left-on in
+        let e₂ = ap nodeCount right-on in
+        omega (arith, S .room, owed-pop nodesBelow parts waiting top h, owed-two nodesBelow parts′ waiting′ (top - 1), owed-rest nodesBelow, node-count-cut (countAt parts taken) big, node-count-some (countAt parts taken / 2), node-count-some (countAt parts taken - countAt parts taken / 2))
 
     at-most : countAt parts taken ≤ 2 ^ (20 - (top - 1))
     at-most = S .deep (top - 1) (omega arith)
@@ -274,8 +277,8 @@ module _ (n : ℕ) (parts : List (List ℕ)) (waiting : List ℕ) (top free : �
     deep′ : (j : ℕ) → j < top - 1 + 2 → countAt parts′ (getD waiting′ j 0) ≤ 2 ^ (20 - j)
     deep′ = up-two (λ j. countAt parts′ (getD waiting′ j 0) ≤ 2 ^ (20 - j)) (top - 1)
         (λ j l. rw (K .before j l, G .count-old (getD waiting j 0) (S .below j (omega arith))) (S .deep j (omega arith)))
-        (omega (arith, w₁, at-most))
-        (omega (arith, w₂, halved (top - 1) (countAt parts taken) low at-most))
+        (omega (arith, left-on, at-most))
+        (omega (arith, right-on, halved (top - 1) (countAt parts taken) low at-most))
 
     made : Inner parts′ (free + 2) taken
     made = record {
@@ -352,7 +355,7 @@ pub shaped : (n : ℕ) (parts : List (List ℕ)) (waiting : List ℕ) (top free 
     → (free ≡ nodeCount n) × ((p : ℕ) → p < free → 8 < countAt parts p → Halves parts p) × Laid parts 0 1 free
 shaped n parts waiting top free S h =
     let e : top ≡ 0 = omega arith in (
-      omega (arith, S .room, ap (owed parts waiting) e, owed-none parts waiting),
+      omega (arith, S .room, ap (owed nodesBelow parts waiting) e, owed-none nodesBelow parts waiting),
       λ p l big. ⊎-elim (λ o. absurd (none o)) (λ i. i big .halves) (S .inner p l),
       S .laid parts free (record { counts = λ p l. refl; kids = λ p l. inr refl }) (rw e (chain-none parts waiting free)),
     )

@@ -43,13 +43,13 @@ two xs u a b h =
     }
 
 -- ---- a node cut
-module _ (corners : List ℤ) (rings : List ℕ) (boxes : List (List ℤ)) (parts : List (List ℕ)) (edges : List ℕ) (p u : ℕ) (boxes′ : List (List ℤ)) (parts′ : List (List ℕ)) (edges′ : List ℕ) where
-  pub node-cut : (axis : Axis) (left right : Rect) → axis ≡ axisOf (rectAt boxes p) → CutPart corners rings axis (firstAt parts p) (countAt parts p) edges edges′
+module _ (corners : List ℤ) (rings : List ℕ) (boxes : List (List ℤ)) (parts : List (List ℕ)) (edges : List ℕ) (p u : ℕ) (boxes′ : List (List ℤ)) (parts′ : List (List ℕ)) (edges′ : List ℕ) (reads : ℕ) where
+  pub node-cut : (axis : Axis) (left right : Rect) → axis ≡ axisOf (rectAt boxes p) → CutPart corners rings axis (firstAt parts p) (countAt parts p) edges edges′ reads
       → left ≡ boxOf corners rings edges′ (firstAt parts p) (countAt parts p / 2) → right ≡ boxOf corners rings edges′ (firstAt parts p + countAt parts p / 2) (countAt parts p - countAt parts p / 2)
-      → Children boxes parts p u (u + 1) (firstAt parts p) (countAt parts p / 2) (countAt parts p - countAt parts p / 2) left right boxes′ parts′ → NodeCut corners rings boxes parts edges p u boxes′ parts′ edges′
+      → Children boxes parts p u (u + 1) (firstAt parts p) (countAt parts p / 2) (countAt parts p - countAt parts p / 2) left right boxes′ parts′ → NodeCut corners rings boxes parts edges p u boxes′ parts′ edges′ reads
   node-cut axis left right is cut l r grown =
       record {
-        cut = subst (λ a. CutPart corners rings a (firstAt parts p) (countAt parts p) edges edges′) is cut;
+        cut = subst (λ a. CutPart corners rings a (firstAt parts p) (countAt parts p) edges edges′ reads) is cut;
         grown =
             subst (λ b. Children boxes parts p u (u + 1) (firstAt parts p) (countAt parts p / 2) (countAt parts p - countAt parts p / 2) (boxOf corners rings edges′ (firstAt parts p) (countAt parts p / 2)) b boxes′ parts′) r
             (subst (λ b. Children boxes parts p u (u + 1) (firstAt parts p) (countAt parts p / 2) (countAt parts p - countAt parts p / 2) b right boxes′ parts′) l grown);

@@ -1,14 +1,14 @@
 -- What the builder makes of the tables (document 01, item 5).
 use mathlib.Core.Path.{_≡_}
 use mathlib.Core.List.{List, []}
-use Prim.Native.Nat.{ℕ, _+_, _-_, _/_, _≤_, _<_}
+use Prim.Native.Nat.{ℕ, _+_, _-_, _*_, _/_, _≤_, _<_}
 use lib.IntN.{ℤ}
 use lib.ListN.{length, getD, set}
 use Rattle.geom.specs.declared.Rect.{Rect}
 use Rattle.rules.specs.Nodes.{nodeCount}
 use Rattle.boxes.specs.Boxes.{boxOf, rectAt, rowOf}
 use Rattle.cut.specs.Keys.{axisOf, CutRule, CutPart}
-use Rattle.index.specs.Parts.{firstAt, countAt, childAt, partRow}
+use Rattle.index.specs.Parts.{firstAt, countAt, childAt, partRow, cutEdges}
 use Rattle.index.specs.Sound.{IndexSound}
 
 -- the first n entries are 0, 1, .. n − 1, and the rest is as it was
@@ -29,14 +29,27 @@ pub record Children (boxes : List (List ℤ)) (parts : List (List ℕ)) (p l r f
   pub boxes-are : boxes′ ≡ set (set boxes l (rowOf left)) r (rowOf right)
   pub parts-are : parts′ ≡ set (set (set parts p (partRow f (half + rest) l)) l (partRow f half 0)) r (partRow (f + half) rest 0)
 
--- the node at p is cut, and its parts take the places u and u + 1
-pub record NodeCut (corners : List ℤ) (rings : List ℕ) (boxes : List (List ℤ)) (parts : List (List ℕ)) (edges : List ℕ) (p u : ℕ) (boxes′ : List (List ℤ)) (parts′ : List (List ℕ)) (edges′ : List ℕ) : Type 0 where
-  pub cut : CutPart corners rings (axisOf (rectAt boxes p)) (firstAt parts p) (countAt parts p) edges edges′
+-- the node at p is cut, its parts take the places u and u + 1, and so many keys are read
+pub record NodeCut (corners : List ℤ) (rings : List ℕ) (boxes : List (List ℤ)) (parts : List (List ℕ)) (edges : List ℕ) (p u : ℕ) (boxes′ : List (List ℤ)) (parts′ : List (List ℕ)) (edges′ : List ℕ) (reads : ℕ) : Type 0 where
+  pub cut : CutPart corners rings (axisOf (rectAt boxes p)) (firstAt parts p) (countAt parts p) edges edges′ reads
   pub grown : Children boxes parts p u (u + 1) (firstAt parts p) (countAt parts p / 2) (countAt parts p - countAt parts p / 2)
       (boxOf corners rings edges′ (firstAt parts p) (countAt parts p / 2)) (boxOf corners rings edges′ (firstAt parts p + countAt parts p / 2) (countAt parts p - countAt parts p / 2)) boxes′ parts′
 
--- the index over n edges: N(n) nodes, sound tables, the cut rule at every cut node, 0 as a leaf's child, and nothing else written
-pub record Built (n : ℕ) (corners : List ℤ) (rings : List ℕ) (boxes : List (List ℤ)) (parts : List (List ℕ)) (edges : List ℕ) (boxes′ : List (List ℤ)) (parts′ : List (List ℕ)) (edges′ : List ℕ) (nodes : ℕ) : Type 0 where
+-- tables with the next free place u and a count of reads, reached from others, whose next free place is 1, by cuts of nodes
+pub data Cuts (corners : List ℤ) (rings : List ℕ) (boxes : List (List ℤ)) (parts : List (List ℕ)) (edges : List ℕ) : List (List ℤ) → List (List ℕ) → List ℕ → ℕ → ℕ → Type 0 where
+  uncut : Cuts corners rings boxes parts edges boxes parts edges 1 0
+  then : {boxes′ boxes″ : List (List ℤ)} {parts′ parts″ : List (List ℕ)} {edges′ edges″ : List ℕ} {u reads more : ℕ} (p : ℕ) → p < u → 8 < countAt parts′ p → Cuts corners rings boxes parts edges boxes′ parts′ edges′ u reads
+      → NodeCut corners rings boxes′ parts′ edges′ p u boxes″ parts″ edges″ more → Cuts corners rings boxes parts edges boxes″ parts″ edges″ (u + 2) (reads + more)
+
+-- the reads of a build are those of its cuts, from tables that hold the root alone on
+pub record BuildReads (n : ℕ) (corners : List ℤ) (rings : List ℕ) (boxes : List (List ℤ)) (parts : List (List ℕ)) (edges : List ℕ) (boxes′ : List (List ℤ)) (parts′ : List (List ℕ)) (edges′ : List ℕ) (nodes reads : ℕ) : Type 0 where
+  pub numbered : List ℕ
+  pub numbers : Numbered n edges numbered
+  pub cuts : Cuts corners rings (set boxes 0 (rowOf (boxOf corners rings numbered 0 n))) (set parts 0 (partRow 0 n 0)) numbered boxes′ parts′ edges′ nodes reads
+
+-- the index over n edges: N(n) nodes, sound tables, the cut rule at every cut node, 0 as a leaf's child, and nothing else written; the
+-- reads of keys counted, at most 65 an edge of a cut node, and at most 17 levels of nodes are cut
+pub record Built (n : ℕ) (corners : List ℤ) (rings : List ℕ) (boxes : List (List ℤ)) (parts : List (List ℕ)) (edges : List ℕ) (boxes′ : List (List ℤ)) (parts′ : List (List ℕ)) (edges′ : List ℕ) (nodes reads : ℕ) : Type 0 where
   pub counted : nodes ≡ nodeCount n
   pub sound : IndexSound n corners rings boxes′ parts′ edges′
   pub cut-rule : (p : ℕ) → p < nodeCount n → 8 < countAt parts′ p → CutRule corners rings (axisOf (rectAt boxes′ p)) (firstAt parts′ p) (countAt parts′ p) edges′
@@ -47,3 +60,6 @@ pub record Built (n : ℕ) (corners : List ℤ) (rings : List ℕ) (boxes : List
   pub boxes-rest : (p : ℕ) → nodeCount n ≤ p → getD boxes′ p [] ≡ getD boxes p []
   pub parts-rest : (p : ℕ) → nodeCount n ≤ p → getD parts′ p [] ≡ getD parts p []
   pub edges-rest : (k : ℕ) → n ≤ k → getD edges′ k 0 ≡ getD edges k 0
+  pub read : BuildReads n corners rings boxes parts edges boxes′ parts′ edges′ nodes reads
+  pub reads-cut : reads ≤ 65 * cutEdges parts′ (nodeCount n)
+  pub reads-few : reads ≤ 65 * (17 * n)

@@ -1,7 +1,9 @@
 -- The node table: parts of the edge list and places of children (document 01, item 5).
 use mathlib.Core.Path.{_≡_}
+use mathlib.Core.Bool.{cond}
 use mathlib.Core.List.{List, [], _∷_}
-use Prim.Native.Nat.{ℕ, _+_, _-_, _/_, _≤_, _<_}
+use Prim.Native.Nat.{ℕ, zero, suc, _+_, _-_, _/_, _≤_, _<_}
+use lib.Dec.{leb}
 use lib.ListN.{getD}
 
 -- a node's part of the edge list, and the place of its left child; its right child stands next to that
@@ -30,3 +32,12 @@ pub record Halves (parts : List (List ℕ)) (p : ℕ) : Type 0 where
 pub data Laid (parts : List (List ℕ)) : ℕ → ℕ → ℕ → Type 0 where
   leaf : {c u : ℕ} → countAt parts c ≤ 8 → Laid parts c u u
   node : {c u v w : ℕ} → 8 < countAt parts c → childAt parts c ≡ u → Laid parts (u + 1) (u + 2) v → Laid parts u v w → Laid parts c u w
+
+-- the edges of a node of m that are cut: none of a leaf's, else all
+unfoldable pub cutSize : ℕ → ℕ
+cutSize m = cond (leb m 8) 0 m
+
+-- the counts of the cut nodes among the first k of the table, together
+unfoldable pub cutEdges : List (List ℕ) → ℕ → ℕ
+cutEdges parts zero = 0
+cutEdges parts (suc k) = cutEdges parts k + cutSize (countAt parts k)

@@ -18,6 +18,9 @@ use geom::Rect;
 /// The most edges of a node that is not cut.
 pub const LEAF: usize = 8;
 
+/// The most nodes that wait while the index is built, or while a walk of sound tables goes through it.
+pub const STACK: usize = 18;
+
 // Puts the edge numbers 0 to n - 1 in order.
 fn number(edges: &mut [usize], n: usize)
     requires { ⌜ n ≤ length (now edges) ⌝ }
@@ -30,8 +33,8 @@ fn number(edges: &mut [usize], n: usize)
     }
 }
 
-// Puts two nodes on the stack; the second is looked at first.
-fn push(waiting: &mut [usize], top: usize, below: usize, above: usize)
+/// Puts two nodes on the stack; the second is looked at first.
+pub fn push(waiting: &mut [usize], top: usize, below: usize, above: usize)
     requires { ⌜ top + 1 < length (now waiting) ⌝ }
     ensures { λ _. ⌜ Two (now (waiting .entry)) top below above (now (waiting .exit)) ⌝ }
 {
@@ -71,7 +74,7 @@ fn put_children(
     put_part(parts, r, first + half, rest, 0);
 }
 
-// Cuts node p, and puts its two parts at the next free places.
+// Cuts node p, puts its two parts at the next free places, and returns how many keys it compared.
 fn cut_node(
     corners: &[i64],
     rings: &[usize],
@@ -82,29 +85,38 @@ fn cut_node(
     count: usize,
     p: usize,
     free: usize,
-)
+) -> usize
     requires { ⌜ CornersNear n (now corners) ⌝ }
     requires { ⌜ RingEnds n count (now rings) ⌝ }
     requires { ⌜ (p < free) × (free + 1 < length (now boxes)) × (free + 1 < length (now parts)) ⌝ }
     requires { ⌜ NearRect (rectAt (now boxes) p) ⌝ }
     requires { ⌜ Names n (now edges) (firstAt (now parts) p) (countAt (now parts) p) ⌝ }
     requires { ⌜ (0 < countAt (now parts) p) × (firstAt (now parts) p + countAt (now parts) p ≤ n) ⌝ }
-    ensures { λ _. ⌜ NodeCut (now (corners .entry)) (now (rings .entry)) (now (boxes .entry)) (now (parts .entry)) (now (edges .entry)) p free (now (boxes .exit)) (now (parts .exit)) (now (edges .exit)) ⌝ }
+    ensures { λ r. ⌜ NodeCut (now (corners .entry)) (now (rings .entry)) (now (boxes .entry)) (now (parts .entry)) (now (edges .entry)) p free (now (boxes .exit)) (now (parts .exit)) (now (edges .exit)) r ⌝ }
 {
     let first = parts[p][0];
     let size = parts[p][1];
     let half = size / 2;
     let rest = size - half;
     let axis = axis_of(rect_at(boxes, p));
-    cut_part(corners, rings, edges, n, count, axis, first, size);
+    let reads = cut_part(corners, rings, edges, n, count, axis, first, size);
     let left = part_box(corners, rings, edges, n, count, first, half);
     let right = part_box(corners, rings, edges, n, count, first + half, rest);
     let next = free + 1;
     put_children(boxes, parts, p, free, next, first, half, rest, left, right);
+    reads
 }
 
-/// Builds the index over the n edges of a plan in range, and returns its number of nodes, N(n). With no edges it has one node, round
-/// nothing. Rows from N(n) on and entries from n on stay as they were.
+/// A hierarchy that was built.
+pub struct Hierarchy {
+    /// How many nodes it has, N(n).
+    pub nodes: usize,
+    /// How many keys its cuts compared: at most 65 an edge and level.
+    pub reads: usize,
+}
+
+/// Builds the index over the n edges of a plan in range, and returns its number of nodes, N(n), and how many keys it compared. With no
+/// edges it has one node, round nothing. Rows from N(n) on and entries from n on stay as they were.
 pub fn build(
     corners: &[i64],
     rings: &[usize],
@@ -113,29 +125,33 @@ pub fn build(
     edges: &mut [usize],
     n: usize,
     count: usize,
-) -> usize
+) -> Hierarchy
     requires { ⌜ CornersNear n (now corners) ⌝ }
     requires { ⌜ RingEnds n count (now rings) ⌝ }
     requires { ⌜ (nodeCount n ≤ length (now boxes)) × (nodeCount n ≤ length (now parts)) × (n ≤ length (now edges)) ⌝ }
-    ensures { λ r. ⌜ Built n (now (corners .entry)) (now (rings .entry)) (now (boxes .entry)) (now (parts .entry)) (now (edges .entry)) (now (boxes .exit)) (now (parts .exit)) (now (edges .exit)) r ⌝ }
+    ensures { λ r. ⌜ Built n (now (corners .entry)) (now (rings .entry)) (now (boxes .entry)) (now (parts .entry)) (now (edges .entry)) (now (boxes .exit)) (now (parts .exit)) (now (edges .exit)) (r .nodes) (r .reads) ⌝ }
 {
     number(edges, n);
     let whole = part_box(corners, rings, edges, n, count, 0, n);
     put_rect(boxes, 0, whole);
     put_part(parts, 0, 0, n, 0);
-    let mut waiting: [usize; 18] = [0; 18];
+    let mut waiting: [usize; STACK] = [0; STACK];
     let mut top: usize = 1;
     let mut free: usize = 1;
+    let mut reads: usize = 0;
     while 0 < top {
         top -= 1;
         let p = waiting[top];
         let size = parts[p][1];
         if LEAF < size {
-            cut_node(corners, rings, boxes, parts, edges, n, count, p, free);
+            reads += cut_node(corners, rings, boxes, parts, edges, n, count, p, free);
             push(&mut waiting, top, free, free + 1);
             top += 2;
             free += 2;
         }
     }
-    free
+    Hierarchy {
+        nodes: free,
+        reads: reads,
+    }
 }

@@ -1,48 +1,65 @@
--- Wrong walks that the contract rules out, whatever the code is. Each stands on sound tables, with a walk that starts over a stack of
--- zeros, or on tables too short. Assumes nothing.
-use mathlib.Core.Path.{_≡_, refl}
-use mathlib.Core.Bool.{true}
+-- Wrong walks, edges and places that the contracts rule out, whatever the code is. Each stands on sound tables, a walk with one that
+-- starts over a stack of zeros, or on tables too short. Assumes nothing.
+use mathlib.Core.Path.{_≡_, refl, sym, ap, _∙_}
+use mathlib.Core.Bool.{true, false, true≢false}
 use mathlib.Core.List.{List, [], _∷_}
-use Prim.Native.Nat.{ℕ, suc, _≤_, _<_}
+use Prim.Native.Nat.{ℕ, suc, _+_, _*_, _≤_, _<_}
 use native.Mathlib.Omega.{arith}
 use borrow.Author.Tests.{eq-eqb}
 use lib.Dec.{eqb}
 use lib.IntN.{ℤ}
 use lib.ListN.{length, getD}
-use Rattle.geom.specs.declared.Rect.{Rect}
-use Rattle.geom.specs.Boxes.{meets}
+use Rattle.geom.specs.declared.Point.{Point}
 use Rattle.rules.specs.Lists.{countOf}
-use Rattle.boxes.specs.Boxes.{edgeBox}
+use Rattle.boxes.specs.Boxes.{rectAt, edgeBox}
+use Rattle.boxes.specs.Rings.{startOf, nextIn, edgeOf, RingAt}
+use Rattle.index.specs.Parts.{firstAt, countAt}
 use Rattle.walk.specs.declared.Cursor.{Cursor}
+use Rattle.walk.specs.declared.Query.{Query}
+use Rattle.walk.specs.declared.Node.{Node}
+use Rattle.walk.specs.declared.Node as Node
+use Rattle.walk.specs.declared.Node.the-variants.{Missed, Leaf, Cut}
 use Rattle.walk.specs.declared.Step.{Step}
 use Rattle.walk.specs.declared.Step as Step
 use Rattle.walk.specs.declared.Step.the-variants.{Edge, End}
-use Rattle.walk.specs.Steps.{stepNumber, Lent, WalkSound, Begun, Says}
+use Rattle.walk.specs.declared.edges.Edge as Found
+use Rattle.walk.specs.declared.place.Place as Place
+use Rattle.walk.specs.Edges.{EdgeSound, EdgeSays, edgeNumber}
+use Rattle.walk.specs.Places.{PlaceSound, PlanReach, IndexReach, PlaceSays, placeNumber}
+use Rattle.walk.specs.Steps.{stepNumber, enters, Lent, Inside, NodeSays, WalkSound, Begun, Says}
 use Rattle.walk.specs.Walks.{Walked}
 use Rattle.walk.proofs.Walked.{begun, stepped, some-edges, all-met, never-unsound}
 
+-- a node whose numbers are inside their tables and whose box is not entered is passed over: a walk that skips no box is none
+pub passed-over : (boxes : List (List ℤ)) (parts : List (List ℕ)) (n nodes : ℕ) (query : Query) (p : ℕ) → Inside parts n nodes p → enters query (rectAt boxes p) ≡ false → (r : Node) → NodeSays boxes parts n nodes query p r
+    → r ≡ Missed (firstAt parts p + countAt parts p)
+passed-over boxes parts n nodes query p I m Node.the-variants.Unsound s = absurd (s I)
+passed-over boxes parts n nodes query p I m (Missed t) s = ap Missed (s .to)
+passed-over boxes parts n nodes query p I m (Leaf f t) s = absurd (true≢false (sym (s .entered) ∙ m))
+passed-over boxes parts n nodes query p I m (Cut f l) s = absurd (true≢false (sym (s .entered) ∙ m))
+
 -- a table or a stack that is too short, or a cursor that is out of its ranges, gets 15
-pub short-refused : (n : ℕ) (boxes : List (List ℤ)) (parts : List (List ℕ)) (edges : List ℕ) (query : Rect) (stack : List ℕ) (c : Cursor) (stack′ : List ℕ) (r : Step)
+pub short-refused : (n : ℕ) (boxes : List (List ℤ)) (parts : List (List ℕ)) (edges : List ℕ) (query : Query) (stack : List ℕ) (c : Cursor) (stack′ : List ℕ) (r : Step)
     → (Lent n (length stack) (length boxes) (length parts) (length edges) c → ⊥) → Says n boxes parts edges query stack c stack′ r → stepNumber r ≡ 15
 short-refused n boxes parts edges query stack c stack′ (Edge e c′) f s = absurd (f (s .lent))
 short-refused n boxes parts edges query stack c stack′ End f s = absurd (f (s .lent))
 short-refused n boxes parts edges query stack c stack′ Step.the-variants.Unsound f s = refl
 
-module _ (n : ℕ) (corners : List ℤ) (rings : List ℕ) (boxes : List (List ℤ)) (parts : List (List ℕ)) (edges : List ℕ) (T : WalkSound n corners rings boxes parts edges) (query : Rect) (stack : List ℕ) (c : Cursor) where
+module _ (n : ℕ) (corners : List ℤ) (rings : List ℕ) (boxes : List (List ℤ)) (parts : List (List ℕ)) (edges : List ℕ) (T : WalkSound n corners rings boxes parts edges) (query : Query) (stack : List ℕ) (c : Cursor) where
   module _ (room : 18 ≤ length stack) (root : getD stack 0 0 ≡ 0) (B : Begun n c) where
     -- a walk that answers 15 at once
     pub not-refused-at-once : (stack′ : List ℕ) → Says n boxes parts edges query stack c stack′ Step.the-variants.Unsound → ⊥
     not-refused-at-once stack′ s = never-unsound n corners rings boxes parts edges T query stack c [] (begun n corners rings boxes parts edges T query stack c room root B) s
 
-    -- a walk that ends at once while an edge's box meets the rectangle, if only in a point of its rim
-    pub not-ended-at-once : (stack′ : List ℕ) (e : ℕ) → e < n → meets (edgeBox corners rings e) query ≡ true → Says n boxes parts edges query stack c stack′ End → ⊥
+    -- a walk that ends at once while an edge's box is one to enter, if only for a point of its rim
+    pub not-ended-at-once : (stack′ : List ℕ) (e : ℕ) → e < n → enters query (edgeBox corners rings e) ≡ true → Says n boxes parts edges query stack c stack′ End → ⊥
     unfolding countOf
     not-ended-at-once stack′ e h m s =
         omega (arith, all-met n corners rings boxes parts edges T query stack c [] (begun n corners rings boxes parts edges T query stack c room root B) s .all e h m)
 
   module _ (es : List ℕ) (W : Walked n corners rings parts edges query stack c es) where
-    -- a walk that ends while an edge whose box meets the rectangle has not come: a forgotten child
-    pub not-ended-early : (stack′ : List ℕ) (e : ℕ) → e < n → meets (edgeBox corners rings e) query ≡ true → countOf (λ x. eqb x e) es ≡ 0 → Says n boxes parts edges query stack c stack′ End → ⊥
+    -- a walk that ends while an edge whose box is one to enter has not come: a forgotten child
+    pub not-ended-early : (stack′ : List ℕ) (e : ℕ) → e < n → enters query (edgeBox corners rings e) ≡ true → countOf (λ x. eqb x e) es ≡ 0 → Says n boxes parts edges query stack c stack′ End → ⊥
     not-ended-early stack′ e h m none s = omega (arith, all-met n corners rings boxes parts edges T query stack c es W s .all e h m)
 
     -- an edge that comes twice
@@ -57,3 +74,36 @@ module _ (n : ℕ) (corners : List ℤ) (rings : List ℕ) (boxes : List (List �
     -- a number that is no edge's
     pub not-beyond : (stack′ : List ℕ) (e : ℕ) (c′ : Cursor) → n ≤ e → Says n boxes parts edges query stack c stack′ (Edge e c′) → ⊥
     not-beyond stack′ e c′ l s = omega (arith, s .edge)
+
+-- ---- the edge of a number
+module _ (n count : ℕ) (corners : List ℤ) (rings : List ℕ) (e : ℕ) where
+  -- on sound tables: item 1's edge with its ring, and so no 15, no other ring and no other end point
+  pub edge-is : EdgeSound n count corners rings e → (ring : ℕ) → RingAt rings count e ring → (r : Found.Edge) → EdgeSays corners rings n count e r → r ≡ Found.the-variants.At ring (edgeOf corners rings e .0) (edgeOf corners rings e .1)
+  edge-is S ring A (Found.the-variants.At found a b) s = λ i. Found.the-variants.At (sym (s .only (S .ends) ring A) i) (s .edge (S .ends) i .0) (s .edge (S .ends) i .1)
+  edge-is S ring A Found.the-variants.Unsound s = absurd (s S)
+
+  -- no such edge, or a table too short: 15
+  pub edge-refused : ((e < n) × (2 * n ≤ length corners) × (count ≤ length rings) → ⊥) → (r : Found.Edge) → EdgeSays corners rings n count e r → edgeNumber r ≡ 15
+  edge-refused f (Found.the-variants.At ring a b) s = absurd (f (s .one, s .reach, s .rings-reach))
+  edge-refused f Found.the-variants.Unsound s = refl
+
+  -- on any tables: ring ends that lead past the plan, into the spare room of the corner table
+  pub not-past : (ring : ℕ) (a b : Point) → n ≤ nextIn (startOf rings ring) (getD rings ring 0) e → EdgeSays corners rings n count e (Found.the-variants.At ring a b) → ⊥
+  not-past ring a b l s = omega (arith, s .next)
+
+-- ---- the place of an edge
+module _ (n count : ℕ) (corners : List ℤ) (rings : List ℕ) (boxes : List (List ℤ)) (parts : List (List ℕ)) (edges : List ℕ) (e : ℕ) where
+  -- on sound tables: the place at which the edge stands, and so no 15 and no other place
+  pub place-is : PlaceSound n count corners rings boxes parts edges e → (k : ℕ) → k < n → getD edges k 0 ≡ e → (r : Place.Place) → PlaceSays n count corners rings boxes parts edges e r → r ≡ Place.the-variants.At k
+  place-is S k h here (Place.the-variants.At found) s = ap Place.the-variants.At (sym (s .stands .only corners rings boxes parts (S .walk .index) k h here))
+  place-is S k h here Place.the-variants.Unsound s = absurd (s S)
+
+  -- on any tables: a place at which another edge stands, or one beyond the last
+  pub place-holds : (k : ℕ) → ((k < n) × (getD edges k 0 ≡ e) → ⊥) → PlaceSays n count corners rings boxes parts edges e (Place.the-variants.At k) → ⊥
+  place-holds k f s = f (s .stands .inside, s .stands .edge)
+
+  -- no such edge, or a table too short: 15
+  pub place-refused : ((e < n) × PlanReach n count (length corners) (length rings) × IndexReach n (length boxes) (length parts) (length edges) → ⊥) → (r : Place.Place) → PlaceSays n count corners rings boxes parts edges e r
+      → placeNumber r ≡ 15
+  place-refused f (Place.the-variants.At k) s = absurd (f (s .stands .one, s .plan, s .index))
+  place-refused f Place.the-variants.Unsound s = refl

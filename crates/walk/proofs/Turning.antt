@@ -7,12 +7,12 @@ use native.Mathlib.Decide.{decLt}
 use native.Mathlib.Omega.{arith}
 use lib.IntN.{ℤ}
 use lib.ListN.{length, getD}
-use Rattle.geom.specs.declared.Rect.{Rect}
 use Rattle.rules.proofs.Indexed.{bit}
 use Rattle.index.specs.Build.{Two}
 use Rattle.index.specs.Parts.{firstAt, countAt}
 use Rattle.index.proofs.Soundness.{edge-in}
 use Rattle.walk.specs.declared.Cursor.{Cursor}
+use Rattle.walk.specs.declared.Query.{Query}
 use Rattle.walk.specs.Steps.{Whether, Inside, Lent, Waiting, MissedTo, LeafFrom, CutInto, afterNode, remaining, WalkSound, Walking, MissedAt, Turned, Advanced, Never, Yields, Ends}
 use Rattle.walk.proofs.Missing.{part-missed}
 use Rattle.walk.proofs.Standing.{walking-next, walking-end, top-first, not-all-met, top-inside, top-deep, walking-off, walking-cut}
@@ -24,7 +24,7 @@ whether-both A true false f g h = λ x. omega (arith, ap bit (h x))
 whether-both A false b f g h = λ x. omega (arith, ap bit (g x))
 
 -- ---- one node met
-module _ (n : ℕ) (boxes : List (List ℤ)) (parts : List (List ℕ)) (query : Rect) (stack : List ℕ) (c : Cursor) (h : 0 < c .waiting) (few : c .waiting ≤ 18) (e : c .to ≤ c .at) where
+module _ (n : ℕ) (boxes : List (List ℤ)) (parts : List (List ℕ)) (query : Query) (stack : List ℕ) (c : Cursor) (h : 0 < c .waiting) (few : c .waiting ≤ 18) (e : c .to ≤ c .at) where
   abbrev top : ℕ
   top = getD stack (c .waiting - 1) 0
 
@@ -58,7 +58,7 @@ module _ (n : ℕ) (boxes : List (List ℤ)) (parts : List (List ℕ)) (query : 
           };
     }
 
-    pub met-leaf : (f t : ℕ) → LeafFrom parts n (c .nodes) top f t → Advanced n boxes parts query stack c stack (afterNode c (c .waiting - 1) f t)
+    pub met-leaf : (f t : ℕ) → LeafFrom boxes parts n (c .nodes) query top f t → Advanced n boxes parts query stack c stack (afterNode c (c .waiting - 1) f t)
     met-leaf f t L = record {
       same = refl;
       few = omega arith;
@@ -75,7 +75,7 @@ module _ (n : ℕ) (boxes : List (List ℤ)) (parts : List (List ℕ)) (query : 
           };
     }
 
-    pub met-cut : (f l : ℕ) (stack′ : List ℕ) → CutInto parts n (c .nodes) top f l → c .waiting - 1 ≤ 16 → Two stack (c .waiting - 1) (l + 1) l stack′ → Advanced n boxes parts query stack c stack′ (afterNode c (c .waiting - 1 + 2) f f)
+    pub met-cut : (f l : ℕ) (stack′ : List ℕ) → CutInto boxes parts n (c .nodes) query top f l → c .waiting - 1 ≤ 16 → Two stack (c .waiting - 1) (l + 1) l stack′ → Advanced n boxes parts query stack c stack′ (afterNode c (c .waiting - 1 + 2) f f)
     met-cut f l stack′ C d K = record {
       same = refl;
       few = omega arith;
@@ -93,7 +93,7 @@ module _ (n : ℕ) (boxes : List (List ℤ)) (parts : List (List ℕ)) (query : 
     }
 
 -- ---- the state of a step that began at cursor c over the stack `stack`
-module _ (n : ℕ) (boxes : List (List ℤ)) (parts : List (List ℕ)) (edges : List ℕ) (query : Rect) (stack : List ℕ) (c : Cursor) where
+module _ (n : ℕ) (boxes : List (List ℤ)) (parts : List (List ℕ)) (edges : List ℕ) (query : Query) (stack : List ℕ) (c : Cursor) where
   pub record Going (stack′ : List ℕ) (here : Cursor) : Type 0 where
     pub lent : Lent n (length stack) (length boxes) (length parts) (length edges) c
     pub long : length stack′ ≡ length stack
@@ -174,7 +174,12 @@ module _ (n : ℕ) (boxes : List (List ℤ)) (parts : List (List ℕ)) (edges : 
     pub going-yields : here .at < here .to → getD edges (here .at) 0 < n → Yields n boxes parts edges query stack c stack′ (getD edges (here .at) 0) (record { nodes = here .nodes; waiting = here .waiting; met = here .met; at = here .at + 1; to = here .to })
     going-yields l i = record {
       edge = i;
+      place = here .at;
+      next = refl;
+      inside = omega (arith, G .inside);
+      read = refl;
       lent = G .lent;
+      same = G .same;
       lent-next = record {
         stack-reach = omega (arith, G .lent .stack-reach, G .long);
         boxes-reach = omega (arith, G .lent .boxes-reach, G .same);
@@ -187,11 +192,7 @@ module _ (n : ℕ) (boxes : List (List ℤ)) (parts : List (List ℕ)) (edges : 
       went = λ corners rings T S.
           let t = G .turned corners rings T S in
           record {
-            place = here .at;
-            next = refl;
             on = t .on;
-            inside = omega (arith, G .inside);
-            edge = refl;
             over = t .over;
             walking = walking-next n corners rings boxes parts edges T stack′ here (t .walking) l;
           };

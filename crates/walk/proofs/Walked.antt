@@ -11,18 +11,17 @@ use lib.Dec.{eqb, ltb}
 use lib.IntN.{ℤ, pos, _+ℤ_, +ℤ-idr, +ℤ-comm}
 use lib.ListN.{length, getD}
 use Rattle.integers.proofs.Tests.{and-none, or-none, not-both}
-use Rattle.geom.specs.declared.Rect.{Rect}
-use Rattle.geom.specs.Boxes.{meets}
 use Rattle.rules.specs.Lists.{sumOf, countOf, anyOf}
 use Rattle.rules.proofs.Indexed.{bit, sumTo, countTo, anyTo}
 use Rattle.boxes.specs.Boxes.{edgeBox}
 use Rattle.boxes.specs.Rings.{startOf}
 use Rattle.index.proofs.Soundness.{edge-in, edge-place, edge-once, edges-counted}
 use Rattle.walk.specs.declared.Cursor.{Cursor}
+use Rattle.walk.specs.declared.Query.{Query}
 use Rattle.walk.specs.declared.Step.{Step}
 use Rattle.walk.specs.declared.Step as Step
 use Rattle.walk.specs.declared.Step.the-variants.{Edge, End}
-use Rattle.walk.specs.Steps.{stepNumber, WalkSound, Begun, Over, Never, Yields, Ends, Says}
+use Rattle.walk.specs.Steps.{stepNumber, enters, WalkSound, Begun, Over, Never, Yields, Ends, Says}
 use Rattle.walk.specs.Walks.{Yielded, Walked, SomeEdges, AllMet, inRing}
 use Rattle.walk.specs.Walks.Yielded.{none, over, edge}
 use Rattle.walk.proofs.Standing.{walking-start}
@@ -35,13 +34,13 @@ or-comm false true = refl
 or-comm false false = refl
 
 -- ---- what is added up over the edges yielded is what the places behind the walk give, where a missed edge adds nothing
-module _ (corners : List ℤ) (rings edges : List ℕ) (query : Rect) where
-  -- a weight that is 0 where the edge's box misses the rectangle, and a test that fails there
+module _ (corners : List ℤ) (rings edges : List ℕ) (query : Query) where
+  -- a weight that is 0 where the edge's box is not one to enter, and a test that fails there
   abbrev pub Weightless : (ℕ → ℤ) → Type 0
-  Weightless w = (e : ℕ) → meets (edgeBox corners rings e) query ≡ false → w e ≡ pos 0
+  Weightless w = (e : ℕ) → enters query (edgeBox corners rings e) ≡ false → w e ≡ pos 0
 
   abbrev pub Fails : (ℕ → Bool) → Type 0
-  Fails test = (e : ℕ) → meets (edgeBox corners rings e) query ≡ false → test e ≡ false
+  Fails test = (e : ℕ) → enters query (edgeBox corners rings e) ≡ false → test e ≡ false
 
   pub sum-yielded : (w : ℕ → ℤ) → Weightless w → (at : ℕ) (es : List ℕ) → Yielded corners rings edges query at es → sumOf w es ≡ sumTo (λ k. w (getD edges k 0)) at
   unfolding sumOf sumTo
@@ -114,7 +113,7 @@ numbered-once e (suc n) h = go (ℕ-discrete n e) (numbered-once e n)
     go (yes q) ih = omega (arith, numbered-none e n (omega arith), ap bit (eq-eqb n e q))
     go (no d) ih = let r = ih (omega arith) in omega (arith, ap bit (ne-eqb n e d))
 
-module _ (n : ℕ) (corners : List ℤ) (rings : List ℕ) (boxes : List (List ℤ)) (parts : List (List ℕ)) (edges : List ℕ) (T : WalkSound n corners rings boxes parts edges) (query : Rect) where
+module _ (n : ℕ) (corners : List ℤ) (rings : List ℕ) (boxes : List (List ℤ)) (parts : List (List ℕ)) (edges : List ℕ) (T : WalkSound n corners rings boxes parts edges) (query : Query) where
   -- ---- from start to end
   pub begun : (stack : List ℕ) (c : Cursor) → 18 ≤ length stack → getD stack 0 0 ≡ 0 → Begun n c → Walked n corners rings parts edges query stack c []
   begun stack c room root B =
@@ -127,13 +126,13 @@ module _ (n : ℕ) (corners : List ℤ) (rings : List ℕ) (boxes : List (List �
     pub stepped : (stack′ : List ℕ) (e : ℕ) (c′ : Cursor) → Yields n boxes parts edges query stack c stack′ e c′ → Walked n corners rings parts edges query stack′ c′ (e ∷ es)
     stepped stack′ e c′ Y =
         let g = Y .went corners rings T (W .walking) in
-        let far = over-to corners rings edges query (c .at) (g .place) es (g .on) (W .yielded) (g .over) in
-        let to : suc (g .place) ≡ c′ .at = omega (arith, g .next) in
+        let far = over-to corners rings edges query (c .at) (Y .place) es (g .on) (W .yielded) (g .over) in
+        let to : suc (Y .place) ≡ c′ .at = omega (arith, Y .next) in
         record {
           walking = g .walking;
           yielded =
-              subst (λ (x : ℕ). Yielded corners rings edges query (c′ .at) (x ∷ es)) (g .edge)
-              (subst (λ (k : ℕ). Yielded corners rings edges query k (getD edges (g .place) 0 ∷ es)) to (edge far));
+              subst (λ (x : ℕ). Yielded corners rings edges query (c′ .at) (x ∷ es)) (Y .read)
+              (subst (λ (k : ℕ). Yielded corners rings edges query k (getD edges (Y .place) 0 ∷ es)) to (edge far));
         }
 
     behind : c .at ≤ n
@@ -173,13 +172,13 @@ module _ (n : ℕ) (corners : List ℤ) (rings : List ℕ) (boxes : List (List �
 
   -- ---- a walk that has ended
   module _ (es : List ℕ) (Y : Yielded corners rings edges query n es) where
-    -- each edge whose box meets the rectangle has come
-    pub met-yielded : (e : ℕ) → e < n → meets (edgeBox corners rings e) query ≡ true → countOf (λ x. eqb x e) es ≡ 1
+    -- each edge whose box is one to enter has come
+    pub met-yielded : (e : ℕ) → e < n → enters query (edgeBox corners rings e) ≡ true → countOf (λ x. eqb x e) es ≡ 1
     met-yielded e h m =
         count-yielded corners rings edges query (λ x. eqb x e) fails n es Y ∙ edges-counted n corners rings boxes parts edges (T .index) (λ x. eqb x e) ∙ numbered-once e n h
       where
-        fails : (x : ℕ) → meets (edgeBox corners rings x) query ≡ false → eqb x e ≡ false
-        fails x f = not-both (eqb x e) (λ q. omega (arith, ap bit (sym m ∙ ap (λ k. meets (edgeBox corners rings k) query) (sym (eqb-true x e q)) ∙ f)))
+        fails : (x : ℕ) → enters query (edgeBox corners rings x) ≡ false → eqb x e ≡ false
+        fails x f = not-both (eqb x e) (λ q. omega (arith, ap bit (sym m ∙ ap (λ k. enters query (edgeBox corners rings k)) (sym (eqb-true x e q)) ∙ f)))
 
     -- a sum over the edges yielded is the sum over all edges in plan order; so are a count and a flag
     pub sum-all : (w : ℕ → ℤ) → Weightless corners rings edges query w → sumOf w es ≡ sumTo w n

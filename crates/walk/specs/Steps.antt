@@ -6,7 +6,7 @@ use Prim.Native.Nat.{ℕ, zero, suc, _+_, _-_, _*_, _^_, _≤_, _<_}
 use lib.IntN.{ℤ}
 use lib.ListN.{length, getD}
 use Rattle.geom.specs.declared.Rect.{Rect}
-use Rattle.geom.specs.Boxes.{meets}
+use Rattle.geom.specs.Boxes.{meets, holdsRect}
 use Rattle.rules.specs.declared.Refusal.the-variants.{Unsound}
 use Rattle.rules.specs.Nodes.{nodeCount}
 use Rattle.rules.specs.Numbers.{refusalNumber}
@@ -14,6 +14,8 @@ use Rattle.boxes.specs.Boxes.{rectAt, edgeBox}
 use Rattle.index.specs.Parts.{firstAt, countAt, childAt}
 use Rattle.index.specs.Sound.{IndexSound}
 use Rattle.walk.specs.declared.Cursor.{Cursor}
+use Rattle.walk.specs.declared.Query.{Query}
+use Rattle.walk.specs.declared.Query.the-variants.{Meeting, Holding}
 use Rattle.walk.specs.declared.Node.{Node}
 use Rattle.walk.specs.declared.Node as Node
 use Rattle.walk.specs.declared.Node.the-variants.{Missed, Leaf, Cut}
@@ -29,6 +31,11 @@ abbrev pub stepNumber : Step → ℕ
 stepNumber (Edge e cursor) = 0
 stepNumber End = 0
 stepNumber Step.the-variants.Unsound = refusalNumber Unsound
+
+-- what is looked for lies in a box: the box is entered. Boxes are closed, so one that meets the rectangle in its rim alone is entered too
+abbrev pub enters : Query → Rect → Bool
+enters (Meeting rect) box = meets box rect
+enters (Holding rect) box = holdsRect box rect
 
 -- a flag says whether something holds
 abbrev pub Whether : Type 0 → Bool → Type 0
@@ -59,35 +66,37 @@ pub record Waiting (stack boxes parts : ℕ) (cursor : Cursor) : Type 0 where
 abbrev pub Inside : List (List ℕ) → ℕ → ℕ → ℕ → Type 0
 Inside parts n nodes p = (p < nodes) × (firstAt parts p + countAt parts p ≤ n) × (8 < countAt parts p → childAt parts p + 1 < nodes)
 
--- its box misses the rectangle, and its part ends at t
-pub record MissedTo (boxes : List (List ℤ)) (parts : List (List ℕ)) (n nodes : ℕ) (query : Rect) (p t : ℕ) : Type 0 where
+-- its box is not entered, and its part ends at t
+pub record MissedTo (boxes : List (List ℤ)) (parts : List (List ℕ)) (n nodes : ℕ) (query : Query) (p t : ℕ) : Type 0 where
   pub node : p < nodes
   pub to : t ≡ firstAt parts p + countAt parts p
   pub fits : t ≤ n
-  pub misses : meets (rectAt boxes p) query ≡ false
+  pub misses : enters query (rectAt boxes p) ≡ false
 
--- it is a leaf, with the places from f to t
-pub record LeafFrom (parts : List (List ℕ)) (n nodes p f t : ℕ) : Type 0 where
+-- its box is entered and it is a leaf, with the places from f to t
+pub record LeafFrom (boxes : List (List ℤ)) (parts : List (List ℕ)) (n nodes : ℕ) (query : Query) (p f t : ℕ) : Type 0 where
   pub node : p < nodes
+  pub entered : enters query (rectAt boxes p) ≡ true
   pub from : f ≡ firstAt parts p
   pub to : t ≡ firstAt parts p + countAt parts p
   pub fits : t ≤ n
   pub small : countAt parts p ≤ 8
 
--- it is cut: its part starts at f, and its left child stands at l
-pub record CutInto (parts : List (List ℕ)) (n nodes p f l : ℕ) : Type 0 where
+-- its box is entered and it is cut: its part starts at f, and its left child stands at l
+pub record CutInto (boxes : List (List ℤ)) (parts : List (List ℕ)) (n nodes : ℕ) (query : Query) (p f l : ℕ) : Type 0 where
   pub node : p < nodes
+  pub entered : enters query (rectAt boxes p) ≡ true
   pub from : f ≡ firstAt parts p
   pub left : l ≡ childAt parts p
   pub fits : firstAt parts p + countAt parts p ≤ n
   pub big : 8 < countAt parts p
   pub children : childAt parts p + 1 < nodes
 
-abbrev pub NodeSays : List (List ℤ) → List (List ℕ) → ℕ → ℕ → Rect → ℕ → Node → Type 0
+abbrev pub NodeSays : List (List ℤ) → List (List ℕ) → ℕ → ℕ → Query → ℕ → Node → Type 0
 NodeSays boxes parts n nodes query p Node.the-variants.Unsound = Inside parts n nodes p → ⊥
 NodeSays boxes parts n nodes query p (Missed t) = MissedTo boxes parts n nodes query p t
-NodeSays boxes parts n nodes query p (Leaf f t) = LeafFrom parts n nodes p f t
-NodeSays boxes parts n nodes query p (Cut f l) = CutInto parts n nodes p f l
+NodeSays boxes parts n nodes query p (Leaf f t) = LeafFrom boxes parts n nodes query p f t
+NodeSays boxes parts n nodes query p (Cut f l) = CutInto boxes parts n nodes query p f l
 
 -- one more node is met
 abbrev pub afterNode : Cursor → ℕ → ℕ → ℕ → Cursor
@@ -99,7 +108,7 @@ remaining cursor = 9 * (cursor .nodes - cursor .met) + (cursor .to - cursor .at)
 
 -- ---- on sound tables
 
--- soundness as far as a walk rests on it: the index of a plan under item 1's ceiling
+-- soundness as far as a walk rests on it: the index of a plan under the ceiling of 1,048,576 corners
 pub record WalkSound (n : ℕ) (corners : List ℤ) (rings : List ℕ) (boxes : List (List ℤ)) (parts : List (List ℕ)) (edges : List ℕ) : Type 0 where
   pub few : n ≤ 1048576
   pub index : IndexSound n corners rings boxes parts edges
@@ -136,21 +145,21 @@ pub record Begun (n : ℕ) (cursor : Cursor) : Type 0 where
   pub at : cursor .at ≡ 0
   pub to : cursor .to ≡ 0
 
--- the box of the edge at place k of the edge list misses the rectangle
-abbrev pub MissedAt : List ℤ → List ℕ → List ℕ → Rect → ℕ → Type 0
-MissedAt corners rings edges query k = meets (edgeBox corners rings (getD edges k 0)) query ≡ false
+-- the box of the edge at place k of the edge list is not one to enter
+abbrev pub MissedAt : List ℤ → List ℕ → List ℕ → Query → ℕ → Type 0
+MissedAt corners rings edges query k = enters query (edgeBox corners rings (getD edges k 0)) ≡ false
 
--- the places from one to another can be passed over: none of their edges has a box that meets the rectangle
-abbrev pub Over : List ℤ → List ℕ → List ℕ → Rect → ℕ → ℕ → Type 0
+-- the places from one to another can be passed over: none of their edges has a box to enter
+abbrev pub Over : List ℤ → List ℕ → List ℕ → Query → ℕ → ℕ → Type 0
 Over corners rings edges query from to = (k : ℕ) → from ≤ k → k < to → MissedAt corners rings edges query k
 
 -- ---- one node met
-pub record Turned (n : ℕ) (corners : List ℤ) (rings edges : List ℕ) (parts : List (List ℕ)) (query : Rect) (cursor : Cursor) (stack′ : List ℕ) (cursor′ : Cursor) : Type 0 where
+pub record Turned (n : ℕ) (corners : List ℤ) (rings edges : List ℕ) (parts : List (List ℕ)) (query : Query) (cursor : Cursor) (stack′ : List ℕ) (cursor′ : Cursor) : Type 0 where
   pub walking : Walking n parts stack′ cursor′
   pub on : cursor .at ≤ cursor′ .at
   pub over : Over corners rings edges query (cursor .at) (cursor′ .at)
 
-pub record Advanced (n : ℕ) (boxes : List (List ℤ)) (parts : List (List ℕ)) (query : Rect) (stack : List ℕ) (cursor : Cursor) (stack′ : List ℕ) (cursor′ : Cursor) : Type 0 where
+pub record Advanced (n : ℕ) (boxes : List (List ℤ)) (parts : List (List ℕ)) (query : Query) (stack : List ℕ) (cursor : Cursor) (stack′ : List ℕ) (cursor′ : Cursor) : Type 0 where
   pub same : cursor′ .nodes ≡ cursor .nodes
   pub few : cursor′ .waiting ≤ 18
   pub inside : cursor′ .to ≤ n
@@ -163,36 +172,37 @@ pub record Advanced (n : ℕ) (boxes : List (List ℤ)) (parts : List (List ℕ)
 abbrev pub Never : ℕ → List (List ℤ) → List (List ℕ) → List ℕ → List ℕ → Cursor → Type 0
 Never n boxes parts edges stack cursor = (corners : List ℤ) (rings : List ℕ) → WalkSound n corners rings boxes parts edges → Walking n parts stack cursor → ⊥
 
-abbrev pub TurnSays : ℕ → List (List ℤ) → List (List ℕ) → Rect → List ℕ → Cursor → List ℕ → Turn → Type 0
+abbrev pub TurnSays : ℕ → List (List ℤ) → List (List ℕ) → Query → List ℕ → Cursor → List ℕ → Turn → Type 0
 TurnSays n boxes parts query stack cursor stack′ (On cursor′) = Advanced n boxes parts query stack cursor stack′ cursor′
 TurnSays n boxes parts query stack cursor stack′ Turn.the-variants.Unsound = (edges : List ℕ) → Never n boxes parts edges stack cursor
 
 -- ---- a step
 
--- on sound tables a step went to the place of the edge that it yields, over places whose edges' boxes miss the rectangle
-pub record Went (n : ℕ) (corners : List ℤ) (rings : List ℕ) (parts : List (List ℕ)) (edges : List ℕ) (query : Rect) (cursor : Cursor) (stack′ : List ℕ) (cursor′ : Cursor) (e : ℕ) : Type 0 where
-  pub place : ℕ
-  pub next : cursor′ .at ≡ place + 1
+-- on sound tables a step went to the place of the edge that it yields, over places whose edges have no box to enter
+pub record Went (n : ℕ) (corners : List ℤ) (rings : List ℕ) (parts : List (List ℕ)) (edges : List ℕ) (query : Query) (cursor : Cursor) (place : ℕ) (stack′ : List ℕ) (cursor′ : Cursor) : Type 0 where
   pub on : cursor .at ≤ place
-  pub inside : place < n
-  pub edge : getD edges place 0 ≡ e
   pub over : Over corners rings edges query (cursor .at) place
   pub walking : Walking n parts stack′ cursor′
 
--- an edge: one of n, from tables long enough, and nearer to the end
-pub record Yields (n : ℕ) (boxes : List (List ℤ)) (parts : List (List ℕ)) (edges : List ℕ) (query : Rect) (stack : List ℕ) (cursor : Cursor) (stack′ : List ℕ) (e : ℕ) (cursor′ : Cursor) : Type 0 where
+-- an edge: one of n, read at the place before the cursor's, from tables long enough, and nearer to the end
+pub record Yields (n : ℕ) (boxes : List (List ℤ)) (parts : List (List ℕ)) (edges : List ℕ) (query : Query) (stack : List ℕ) (cursor : Cursor) (stack′ : List ℕ) (e : ℕ) (cursor′ : Cursor) : Type 0 where
   pub edge : e < n
+  pub place : ℕ
+  pub next : cursor′ .at ≡ place + 1
+  pub inside : place < n
+  pub read : getD edges place 0 ≡ e
   pub lent : Lent n (length stack) (length boxes) (length parts) (length edges) cursor
+  pub same : cursor′ .nodes ≡ cursor .nodes
   pub lent-next : Lent n (length stack′) (length boxes) (length parts) (length edges) cursor′
   pub less : remaining cursor′ < remaining cursor
-  pub went : (corners : List ℤ) (rings : List ℕ) → WalkSound n corners rings boxes parts edges → Walking n parts stack cursor → Went n corners rings parts edges query cursor stack′ cursor′ e
+  pub went : (corners : List ℤ) (rings : List ℕ) → WalkSound n corners rings boxes parts edges → Walking n parts stack cursor → Went n corners rings parts edges query cursor place stack′ cursor′
 
 -- the end: on sound tables every place that is left can be passed over
-pub record Ends (n : ℕ) (boxes : List (List ℤ)) (parts : List (List ℕ)) (edges : List ℕ) (query : Rect) (stack : List ℕ) (cursor : Cursor) : Type 0 where
+pub record Ends (n : ℕ) (boxes : List (List ℤ)) (parts : List (List ℕ)) (edges : List ℕ) (query : Query) (stack : List ℕ) (cursor : Cursor) : Type 0 where
   pub lent : Lent n (length stack) (length boxes) (length parts) (length edges) cursor
   pub over : (corners : List ℤ) (rings : List ℕ) → WalkSound n corners rings boxes parts edges → Walking n parts stack cursor → Over corners rings edges query (cursor .at) n
 
-abbrev pub Says : ℕ → List (List ℤ) → List (List ℕ) → List ℕ → Rect → List ℕ → Cursor → List ℕ → Step → Type 0
+abbrev pub Says : ℕ → List (List ℤ) → List (List ℕ) → List ℕ → Query → List ℕ → Cursor → List ℕ → Step → Type 0
 Says n boxes parts edges query stack cursor stack′ (Edge e cursor′) = Yields n boxes parts edges query stack cursor stack′ e cursor′
 Says n boxes parts edges query stack cursor stack′ End = Ends n boxes parts edges query stack cursor
 Says n boxes parts edges query stack cursor stack′ Step.the-variants.Unsound = Never n boxes parts edges stack cursor

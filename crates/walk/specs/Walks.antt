@@ -6,23 +6,22 @@ use Prim.Native.Nat.{ℕ, suc, _≤_, _<_}
 use lib.Dec.{eqb, leb, ltb}
 use lib.IntN.{ℤ}
 use lib.ListN.{length, getD}
-use Rattle.geom.specs.declared.Rect.{Rect}
-use Rattle.geom.specs.Boxes.{meets}
 use Rattle.rules.specs.Lists.{countOf}
 use Rattle.boxes.specs.Boxes.{edgeBox}
 use Rattle.boxes.specs.Rings.{startOf}
 use Rattle.walk.specs.declared.Cursor.{Cursor}
-use Rattle.walk.specs.Steps.{Walking, MissedAt}
+use Rattle.walk.specs.declared.Query.{Query}
+use Rattle.walk.specs.Steps.{enters, Walking, MissedAt}
 
 -- the edges yielded, the latest first, when so many places of the edge list are behind the walk: each was yielded, or passed over
--- because its box misses the rectangle
-pub data Yielded (corners : List ℤ) (rings edges : List ℕ) (query : Rect) : ℕ → List ℕ → Type 0 where
+-- because its box is not one to enter
+pub data Yielded (corners : List ℤ) (rings edges : List ℕ) (query : Query) : ℕ → List ℕ → Type 0 where
   none : Yielded corners rings edges query 0 []
   over : {at : ℕ} {es : List ℕ} → Yielded corners rings edges query at es → MissedAt corners rings edges query at → Yielded corners rings edges query (suc at) es
   edge : {at : ℕ} {es : List ℕ} → Yielded corners rings edges query at es → Yielded corners rings edges query (suc at) (getD edges at 0 ∷ es)
 
 -- what a caller's loop carries, on sound tables: where the walk stands, and what it has yielded
-pub record Walked (n : ℕ) (corners : List ℤ) (rings : List ℕ) (parts : List (List ℕ)) (edges : List ℕ) (query : Rect) (stack : List ℕ) (cursor : Cursor) (es : List ℕ) : Type 0 where
+pub record Walked (n : ℕ) (corners : List ℤ) (rings : List ℕ) (parts : List (List ℕ)) (edges : List ℕ) (query : Query) (stack : List ℕ) (cursor : Cursor) (es : List ℕ) : Type 0 where
   pub walking : Walking n parts stack cursor
   pub yielded : Yielded corners rings edges query (cursor .at) es
 
@@ -32,10 +31,10 @@ pub record SomeEdges (n : ℕ) (es : List ℕ) : Type 0 where
   pub once : (e : ℕ) → countOf (λ x. eqb x e) es ≤ 1
   pub few : length es ≤ n
 
--- and at the end: each edge whose box meets the rectangle has come
-pub record AllMet (n : ℕ) (corners : List ℤ) (rings : List ℕ) (query : Rect) (es : List ℕ) : Type 0 where
+-- and at the end: each edge whose box is one to enter has come
+pub record AllMet (n : ℕ) (corners : List ℤ) (rings : List ℕ) (query : Query) (es : List ℕ) : Type 0 where
   pub some : SomeEdges n es
-  pub all : (e : ℕ) → e < n → meets (edgeBox corners rings e) query ≡ true → countOf (λ x. eqb x e) es ≡ 1
+  pub all : (e : ℕ) → e < n → enters query (edgeBox corners rings e) ≡ true → countOf (λ x. eqb x e) es ≡ 1
 
 -- edge e is one of ring r
 abbrev pub inRing : List ℕ → ℕ → ℕ → Bool

@@ -1,18 +1,29 @@
 // The walk through the hierarchy of boxes, as a step that yields the next edge number (document 01, items 5 and 9, refusal 15; `visit`
-// and `ray_segments` of src/prepared.rs). The rectangle stands for the closure of the Rust: whoever asks says what it looks for.
+// and `ray_segments` of src/prepared.rs). The query stands for the closure of the Rust: whoever asks says what it looks for.
 ghost use mathlib.Core.Path.{_≡_};
 ghost use Prim.Native.Nat.{_+_, _<_, _≤_};
 ghost use lib.ListN.{length};
-ghost use Rattle.geom.specs.Boxes.{meets};
-ghost use Rattle.index.specs.Build.{Two};
-ghost use Rattle.walk.specs.Steps.{Lent, Whether, Waiting, NodeSays, afterNode, Begun, TurnSays, Says};
+ghost use Rattle.walk.specs.Steps.{enters, Lent, Whether, Waiting, NodeSays, afterNode, Begun, TurnSays, Says};
+
+/// An edge by its number.
+pub mod edges;
+/// The place of an edge in the edge list.
+pub mod place;
+
 use boxes::rect_at;
 use geom::Rect;
 use index::build::LEAF;
+pub use index::build::STACK;
+use index::build::push;
 use index::count::node_count;
 
-/// The most nodes that a walk of sound tables keeps waiting, and the least length of the stack that a walk is lent.
-pub const STACK: usize = 18;
+/// What a walk looks for, and so which boxes it enters.
+pub enum Query {
+    /// The boxes that share a point with a closed rectangle, if only one of their rims.
+    Meeting(Rect),
+    /// The boxes that hold the whole of a closed rectangle.
+    Holding(Rect),
+}
 
 /// Where a walk stands: how many nodes the index has, how many of them wait on the stack, how many were met, and the places of the edge
 /// list that are left of the leaf in hand, from `at` up to `to`.
@@ -30,7 +41,8 @@ pub enum Step {
     Edge(usize, Cursor),
     /// No edge is left.
     End,
-    /// 15: a number outside its table, more nodes met than the index has, more than 18 waiting, or a table shorter than the state says.
+    /// 15: a number outside its table, more nodes met than the index has, more than 18 waiting, or a table or the stack too
+    /// short.
     Unsound,
 }
 
@@ -38,7 +50,7 @@ pub enum Step {
 pub(crate) enum Node {
     // one of its numbers is outside its table
     Unsound,
-    // its box misses the rectangle; its part ends at this place
+    // its box is not entered; its part ends at this place
     Missed(usize),
     // a leaf, with the places from one to another
     Leaf(usize, usize),
@@ -78,11 +90,14 @@ fn lent_enough(
     (cursor.waiting <= STACK) & (cursor.to <= n)
 }
 
-// Whether a node is entered: its box and the rectangle share a point, if only one of their rims.
-fn enters(rect: Rect, query: Rect) -> bool
-    ensures { λ r. ⌜ r ≡ meets rect query ⌝ }
+// Whether a node with this box is entered.
+fn is_entered(query: Query, rect: Rect) -> bool
+    ensures { λ r. ⌜ r ≡ enters query rect ⌝ }
 {
-    rect.intersects(query)
+    match query {
+        Query::Meeting(wanted) => rect.intersects(wanted),
+        Query::Holding(wanted) => rect.contains_rect(wanted),
+    }
 }
 
 // What node p asks, with every number that it names tested.
@@ -91,7 +106,7 @@ fn node_at(
     parts: &[[usize; 3]],
     n: usize,
     nodes: usize,
-    query: Rect,
+    query: Query,
     p: usize,
 ) -> Node
     requires { ⌜ (nodes ≤ length (now boxes)) × (nodes ≤ length (now parts)) ⌝ }
@@ -108,7 +123,7 @@ fn node_at(
     if n - first < count {
         return Node::Unsound;
     }
-    if !enters(rect_at(boxes, p), query) {
+    if !is_entered(query, rect_at(boxes, p)) {
         return Node::Missed(first + count);
     }
     if count <= LEAF {
@@ -119,15 +134,6 @@ fn node_at(
         return Node::Unsound;
     }
     Node::Cut(first, child)
-}
-
-// Puts two nodes on the stack; the second is met first.
-fn push(stack: &mut [usize], top: usize, below: usize, above: usize)
-    requires { ⌜ top + 1 < length (now stack) ⌝ }
-    ensures { λ _. ⌜ Two (now (stack .entry)) top below above (now (stack .exit)) ⌝ }
-{
-    stack[top] = below;
-    stack[top + 1] = above;
 }
 
 // Where a walk stands when one more node is met.
@@ -145,13 +151,13 @@ fn after_node(cursor: Cursor, waiting: usize, at: usize, to: usize) -> Cursor
 }
 
 // Takes the top node off the stack: a leaf comes in hand, the children of a cut node wait in its place, left on top, and a node whose
-// box misses the rectangle is passed over with all that is below it.
+// box is not entered is passed over with all that is below it.
 fn meet_node(
     stack: &mut [usize],
     boxes: &[[i64; 4]],
     parts: &[[usize; 3]],
     n: usize,
-    query: Rect,
+    query: Query,
     cursor: Cursor,
 ) -> Turn
     requires { ⌜ Waiting (length (now stack)) (length (now boxes)) (length (now parts)) cursor ⌝ }
@@ -167,8 +173,8 @@ fn meet_node(
         Node::Missed(end) => Turn::On(after_node(cursor, top, end, end)),
         Node::Leaf(first, end) => Turn::On(after_node(cursor, top, first, end)),
         Node::Cut(first, left) => {
-            // the two children take the places top and top + 1 of 18
-            if 16 < top {
+            // the two children take the places top and top + 1
+            if STACK - 2 < top {
                 return Turn::Unsound;
             }
             push(stack, top, left + 1, left);
@@ -190,19 +196,21 @@ pub fn start(n: usize) -> Cursor
     }
 }
 
-/// The next edge of a walk over a closed rectangle, with the walk after it, or the end. The stack is the caller's and is lent to each
-/// step of the walk; the tables are only read.
+/// The next edge of a walk that looks for what the query says, with the walk after it, or the end. The tables are only read. The stack
+/// is working space and no table of the plan: an array of `STACK` numbers that the caller keeps for the length of one walk and lends to
+/// each step. A step that is refused leaves every table as it was; of the stack it promises its length alone.
 ///
-/// On sound tables, with a cursor and a stack as `start` and earlier steps left them, every edge whose box meets the rectangle comes,
-/// none twice, and others may come. Refused with 15 (`Unsound`) where a number leads outside its table, more nodes are met than the
-/// index has, more than 18 would wait, or a table or the stack is too short: never on sound tables.
+/// On sound tables, with a cursor and a stack as `start` and earlier steps left them, every edge whose box the query enters comes, none
+/// twice, and others may come. On any tables an edge that comes stands in the edge list at the place before the cursor's. Refused with
+/// 15 (`Unsound`) where a number leads outside its table, more nodes are met than the index has, more than 18 would wait, or a table or
+/// the stack is too short: never on sound tables with such a cursor and such a stack of at least 18 numbers.
 pub fn next(
     stack: &mut [usize],
     boxes: &[[i64; 4]],
     parts: &[[usize; 3]],
     edges: &[usize],
     n: usize,
-    query: Rect,
+    query: Query,
     cursor: Cursor,
 ) -> Step
     ensures { λ r. ⌜ Says n (now (boxes .entry)) (now (parts .entry)) (now (edges .entry)) query (now (stack .entry)) cursor (now (stack .exit)) r ⌝ }

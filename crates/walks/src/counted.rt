@@ -1,13 +1,23 @@
 // Walks, counted.
+use crate::places::all_places;
 use crate::shapes::Spread;
 use crate::shapes::fill;
 use geom::Point;
 use geom::Rect;
 use index::build::build;
 use index::count::node_count;
+use walk::Query;
+use walk::STACK;
 use walk::Step;
 use walk::next;
 use walk::start;
+
+/// What is looked for: the boxes that meet each of twelve rectangles, those that hold it, or the place of each edge.
+pub enum Search {
+    Meeting,
+    Holding,
+    Places,
+}
 
 /// Edges that came, walks that ended and walks that were refused.
 pub struct Tally {
@@ -98,7 +108,7 @@ const QUERIES: [i64; 48] = [
 ];
 
 // Rectangle k of the twelve.
-fn query_at(k: usize) -> Rect {
+fn rectangle(k: usize) -> Rect {
     let i = k % 12 * 4;
     Rect {
         min: Point {
@@ -112,15 +122,23 @@ fn query_at(k: usize) -> Rect {
     }
 }
 
+// The walk for rectangle k.
+fn query_at(k: usize, holding: bool) -> Query {
+    if holding {
+        return Query::Holding(rectangle(k));
+    }
+    Query::Meeting(rectangle(k))
+}
+
 // One walk.
 fn walked(
     boxes: &[[i64; 4]],
     parts: &[[usize; 3]],
     edges: &[usize],
     n: usize,
-    query: Rect,
+    query: Query,
 ) -> Tally {
-    let mut stack: [usize; 18] = [0; 18];
+    let mut stack: [usize; STACK] = [0; STACK];
     let mut cursor = start(n);
     let mut count: usize = 0;
     loop {
@@ -147,18 +165,35 @@ fn walked(
     }
 }
 
-/// A walk for each of the twelve rectangles.
-pub(crate) fn all_queries(
+// A walk for each of the twelve rectangles.
+fn all_queries(
     boxes: &[[i64; 4]],
     parts: &[[usize; 3]],
     edges: &[usize],
     n: usize,
+    holding: bool,
 ) -> Tally {
     let mut together = nothing();
     for k in 0usize..12 {
-        together = together.with(walked(boxes, parts, edges, n, query_at(k)));
+        together = together.with(walked(boxes, parts, edges, n, query_at(k, holding)));
     }
     together
+}
+
+/// A ring of n corners, searched.
+pub(crate) fn searched(
+    corners: &[i64],
+    boxes: &[[i64; 4]],
+    parts: &[[usize; 3]],
+    edges: &[usize],
+    n: usize,
+    search: Search,
+) -> Tally {
+    match search {
+        Search::Meeting => all_queries(boxes, parts, edges, n, false),
+        Search::Holding => all_queries(boxes, parts, edges, n, true),
+        Search::Places => all_places(corners, boxes, parts, edges, n),
+    }
 }
 
 // Builds the index over one ring of n corners. Returns the number of nodes, or 0 where a table is too short or a corner out of range,
@@ -190,7 +225,8 @@ fn built(
         return 0;
     }
     let rings: [usize; 1] = [n];
-    build(corners, &rings, boxes, parts, edges, n, 1)
+    let hierarchy = build(corners, &rings, boxes, parts, edges, n, 1);
+    hierarchy.nodes
 }
 
 /// A ring of n corners and its index. Returns the number of nodes.
@@ -206,7 +242,7 @@ pub(crate) fn prepared(
     built(corners, boxes, parts, edges, n)
 }
 
-/// A ring of n corners, walked with all rectangles.
+/// A ring of n corners, prepared and searched.
 pub(crate) fn filled(
     corners: &mut [i64],
     boxes: &mut [[i64; 4]],
@@ -214,12 +250,13 @@ pub(crate) fn filled(
     edges: &mut [usize],
     n: usize,
     spread: Spread,
+    search: Search,
 ) -> Tally {
     prepared(corners, boxes, parts, edges, n, spread);
-    all_queries(boxes, parts, edges, n)
+    searched(corners, boxes, parts, edges, n, search)
 }
 
-/// The rings of 0 to `last` corners, walked with all rectangles.
+/// The rings of 0 to `last` corners, prepared and searched.
 pub(crate) fn all_to(
     corners: &mut [i64],
     boxes: &mut [[i64; 4]],
@@ -227,12 +264,13 @@ pub(crate) fn all_to(
     edges: &mut [usize],
     last: usize,
     spread: Spread,
+    search: Search,
 ) -> Tally {
     let mut together = nothing();
     let mut n: usize = 0;
     while n < last {
-        together = together.with(filled(corners, boxes, parts, edges, n, spread));
+        together = together.with(filled(corners, boxes, parts, edges, n, spread, search));
         n += 1;
     }
-    together.with(filled(corners, boxes, parts, edges, last, spread))
+    together.with(filled(corners, boxes, parts, edges, last, spread, search))
 }

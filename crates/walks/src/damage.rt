@@ -1,7 +1,8 @@
-// Tables with one number put to an extreme, walked, and put right again.
+// Tables with one number put to an extreme, searched, and put right again.
+use crate::counted::Search;
 use crate::counted::Tally;
-use crate::counted::all_queries;
 use crate::counted::nothing;
+use crate::counted::searched;
 
 // Coordinates at the ends of 64 bits and of the range, and beside them.
 const COORDINATES: [i64; 6] = [
@@ -31,6 +32,7 @@ const NUMBERS: [usize; 12] = [
 
 // Field j of the box at p.
 fn box_field(
+    corners: &[i64],
     boxes: &mut [[i64; 4]],
     parts: &[[usize; 3]],
     edges: &[usize],
@@ -38,6 +40,7 @@ fn box_field(
     p: usize,
     j: usize,
     value: i64,
+    search: Search,
 ) -> Tally {
     if boxes.len() <= p {
         return nothing();
@@ -47,18 +50,20 @@ fn box_field(
     }
     let right = boxes[p][j];
     boxes[p][j] = value;
-    let tally = all_queries(boxes, parts, edges, n);
+    let tally = searched(corners, boxes, parts, edges, n, search);
     boxes[p][j] = right;
     tally
 }
 
 /// Every field of every box, with each coordinate.
 pub(crate) fn all_box_fields(
+    corners: &[i64],
     boxes: &mut [[i64; 4]],
     parts: &[[usize; 3]],
     edges: &[usize],
     n: usize,
     nodes: usize,
+    search: Search,
 ) -> Tally {
     let mut together = nothing();
     if 262143 < nodes {
@@ -67,6 +72,7 @@ pub(crate) fn all_box_fields(
     let mut k: usize = 0;
     while k < nodes * 24 {
         together = together.with(box_field(
+            corners,
             boxes,
             parts,
             edges,
@@ -74,6 +80,7 @@ pub(crate) fn all_box_fields(
             k / 24,
             k / 6 % 4,
             COORDINATES[k % 6],
+            search,
         ));
         k += 1;
     }
@@ -82,6 +89,7 @@ pub(crate) fn all_box_fields(
 
 // Field j of the part at p.
 fn part_field(
+    corners: &[i64],
     boxes: &[[i64; 4]],
     parts: &mut [[usize; 3]],
     edges: &[usize],
@@ -89,6 +97,7 @@ fn part_field(
     p: usize,
     j: usize,
     value: usize,
+    search: Search,
 ) -> Tally {
     if parts.len() <= p {
         return nothing();
@@ -98,18 +107,20 @@ fn part_field(
     }
     let right = parts[p][j];
     parts[p][j] = value;
-    let tally = all_queries(boxes, parts, edges, n);
+    let tally = searched(corners, boxes, parts, edges, n, search);
     parts[p][j] = right;
     tally
 }
 
 /// Every field of every part, with each number.
 pub(crate) fn all_part_fields(
+    corners: &[i64],
     boxes: &[[i64; 4]],
     parts: &mut [[usize; 3]],
     edges: &[usize],
     n: usize,
     nodes: usize,
+    search: Search,
 ) -> Tally {
     let mut together = nothing();
     if 262143 < nodes {
@@ -118,6 +129,7 @@ pub(crate) fn all_part_fields(
     let mut k: usize = 0;
     while k < nodes * 36 {
         together = together.with(part_field(
+            corners,
             boxes,
             parts,
             edges,
@@ -125,6 +137,7 @@ pub(crate) fn all_part_fields(
             k / 36,
             k / 12 % 3,
             NUMBERS[k % 12],
+            search,
         ));
         k += 1;
     }
@@ -133,29 +146,33 @@ pub(crate) fn all_part_fields(
 
 // The edge number at place k.
 fn edge_at(
+    corners: &[i64],
     boxes: &[[i64; 4]],
     parts: &[[usize; 3]],
     edges: &mut [usize],
     n: usize,
     k: usize,
     value: usize,
+    search: Search,
 ) -> Tally {
     if edges.len() <= k {
         return nothing();
     }
     let right = edges[k];
     edges[k] = value;
-    let tally = all_queries(boxes, parts, edges, n);
+    let tally = searched(corners, boxes, parts, edges, n, search);
     edges[k] = right;
     tally
 }
 
 /// Every edge number, with each number.
 pub(crate) fn all_edges(
+    corners: &[i64],
     boxes: &[[i64; 4]],
     parts: &[[usize; 3]],
     edges: &mut [usize],
     n: usize,
+    search: Search,
 ) -> Tally {
     let mut together = nothing();
     if 1048576 < n {
@@ -163,7 +180,16 @@ pub(crate) fn all_edges(
     }
     let mut k: usize = 0;
     while k < n * 12 {
-        together = together.with(edge_at(boxes, parts, edges, n, k / 12, NUMBERS[k % 12]));
+        together = together.with(edge_at(
+            corners,
+            boxes,
+            parts,
+            edges,
+            n,
+            k / 12,
+            NUMBERS[k % 12],
+            search,
+        ));
         k += 1;
     }
     together

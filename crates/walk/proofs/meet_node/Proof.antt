@@ -9,7 +9,7 @@ use Rattle.walk.proofs.meet_node.Statement.{statement}
 use Rattle.walk.proofs.meet_node.Tie as tie
 
 -- what the cut node in hand says
-cut : (c : tie.After-known-told3) → CutInto (c .before .before .before .before .before .before .before .before .before .args .parts .now) (c .before .before .before .before .before .before .before .before .before .args .n) (c .before .before .before .before .before .before .before .before .before .args .cursor .nodes) (getD (c .before .before .before .before .before .before .before .before .before .args .stack .now) (c .before .before .before .before .before .before .before .before .before .args .cursor .waiting - 1) 0) (c .before .first2 .given .0 .0) (c .before .first2 .given .0 .1 .0)
+cut : (c : tie.After-known-told3) → CutInto (c .before .before .before .before .before .before .before .before .before .args .boxes .now) (c .before .before .before .before .before .before .before .before .before .args .parts .now) (c .before .before .before .before .before .before .before .before .before .args .n) (c .before .before .before .before .before .before .before .before .before .args .cursor .nodes) (c .before .before .before .before .before .before .before .before .before .args .query) (getD (c .before .before .before .before .before .before .before .before .before .args .stack .now) (c .before .before .before .before .before .before .before .before .before .args .cursor .waiting - 1) 0) (c .before .first2 .given .0 .0) (c .before .first2 .given .0 .1 .0)
 cut c = rw (c .before .first2 .given .1) at (c .before .before .before .node-at .ensures)
 
 returns : tie.Need-returns
@@ -47,6 +47,9 @@ after-node-requires-2 c κs = search needs
 
 enum-known-first-2 : tie.Need-enum-known-first-2
 enum-known-first-2 c = search needs
+
+sub-if2 : tie.Need-sub-if2
+sub-if2 c = search needs
 
 returns-2 : tie.Need-returns-2
 returns-2 c =
@@ -111,6 +114,7 @@ meet-node-spec =
     enum-known-first
     after-node-requires-2
     enum-known-first-2
+    sub-if2
     returns-2
     add-push
     push-requires

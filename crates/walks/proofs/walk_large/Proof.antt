@@ -23,8 +23,8 @@ slice-aggregate-filled-4 c = sym (length-replicate {A = ℕ} 1048576 0)
 filled-requires : tie.Need-filled-requires
 filled-requires c κs = search needs
 
-write-name-requires : tie.Need-write-name-requires
-write-name-requires c κs = search needs
+write-title-requires : tie.Need-write-title-requires
+write-title-requires c κs = search needs
 
 write-tally-requires : tie.Need-write-tally-requires
 write-tally-requires c κs = search needs
@@ -41,6 +41,6 @@ walk-large-spec =
     slice-aggregate-filled-3
     slice-aggregate-filled-4
     filled-requires
-    write-name-requires
+    write-title-requires
     write-tally-requires
     returns)

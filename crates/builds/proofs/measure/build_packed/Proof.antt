@@ -5,14 +5,23 @@ use Rattle.builds.proofs.measure.build_packed.Tie as tie
 use native.Mathlib.Omega.{arith}
 use Rattle.integers.proofs.Tests.{not-false}
 use Rattle.index.proofs.Soundness.{edge-in}
-use Rattle.builds.proofs.Ring.{one-ring, near-corners}
+use Rattle.boxes.proofs.OneRing.{one-ring, near-corners}
 use mathlib.Core.Path.{sym, _∙_}
+
+nothing-requires : tie.Need-nothing-requires
+nothing-requires c κs = search needs
 
 returns : tie.Need-returns
 returns c = search needs
 
+nothing-requires-2 : tie.Need-nothing-requires-2
+nothing-requires-2 c κs = search needs
+
 returns-2 : tie.Need-returns-2
 returns-2 c = search needs
+
+nothing-requires-3 : tie.Need-nothing-requires-3
+nothing-requires-3 c κs = search needs
 
 returns-3 : tie.Need-returns-3
 returns-3 c = search needs
@@ -20,14 +29,23 @@ returns-3 c = search needs
 node-count-requires : tie.Need-node-count-requires
 node-count-requires c κs = search needs
 
+nothing-requires-4 : tie.Need-nothing-requires-4
+nothing-requires-4 c κs = search needs
+
 returns-4 : tie.Need-returns-4
 returns-4 c = search needs
+
+nothing-requires-5 : tie.Need-nothing-requires-5
+nothing-requires-5 c κs = search needs
 
 returns-5 : tie.Need-returns-5
 returns-5 c = search needs
 
 all-in-range-requires : tie.Need-all-in-range-requires
 all-in-range-requires c κs = search needs
+
+nothing-requires-6 : tie.Need-nothing-requires-6
+nothing-requires-6 c κs = search needs
 
 returns-6 : tie.Need-returns-6
 returns-6 c = search needs
@@ -72,13 +90,19 @@ pub build-packed-spec : {M : Type 1} → statement M
 build-packed-spec =
     tie.close
     (tie.spec
+    nothing-requires
     returns
+    nothing-requires-2
     returns-2
+    nothing-requires-3
     returns-3
     node-count-requires
+    nothing-requires-4
     returns-4
+    nothing-requires-5
     returns-5
     all-in-range-requires
+    nothing-requires-6
     returns-6
     slice-aggregate-build
     build-requires

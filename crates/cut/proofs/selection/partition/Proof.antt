@@ -1,9 +1,9 @@
--- `cut::selection::partition` meets its contract: one turn moves a number that is at most v in front, or leaves it (`Partings`).
+-- `cut::selection::partition` meets its contract: one turn reads a number, and moves it in front if it is at most v (`Partings`).
 use Rattle.cut.proofs.selection.partition.Statement.{statement}
 use Rattle.cut.proofs.selection.partition.Tie as tie
 use mathlib.Core.Path.{_≡_, refl, _∙_}
 use mathlib.Core.Logic.{⊎-elim}
-use Prim.Native.Nat.{_-_}
+use Prim.Native.Nat.{_+_, _-_}
 use native.Mathlib.Omega.{arith}
 use lib.ListN.{length}
 use Rattle.cut.specs.Shuffle.{swapped}
@@ -11,14 +11,17 @@ use Rattle.cut.proofs.Shuffles.{length-swapped}
 use Rattle.cut.proofs.Partings.{Parting, parting-start, parting-in, parting-out, parting-done}
 
 abbrev Inv-loop : tie.InvT-loop
-Inv-loop values₀ lo hi v s₀ i₀ values s i = Parting lo hi v values₀ values s i × (length values ≡ length values₀)
+Inv-loop values₀ lo hi v s₀ reads₀ i₀ values s reads i = Parting lo hi v values₀ values s i × (length values ≡ length values₀) × (reads + lo ≡ i)
 
 abbrev μ-loop : tie.MeasureT-loop
-μ-loop values₀ lo hi v s₀ i₀ values s i = hi - i
+μ-loop values₀ lo hi v s₀ reads₀ i₀ values s reads i = hi - i
 
 loop-holds : tie.Need-loop-holds Inv-loop μ-loop
 loop-holds c = let a = c .before .args in
-    (parting-start (a .lo) (a .hi) (a .v) (a .values .now) (a .values .now) (c .before .pre .0), refl)
+    (parting-start (a .lo) (a .hi) (a .v) (a .values .now) (a .values .now) (c .before .pre .0), refl, omega arith)
+
+add-reads : tie.Need-add-reads Inv-loop μ-loop
+add-reads c = omega arith
 
 mul-if1 : tie.Need-mul-if1 Inv-loop μ-loop
 mul-if1 c = omega arith
@@ -50,10 +53,12 @@ loop-again c =
     rw (e, w .6) (
       parting-in (a .lo) (a .hi) (a .v) (a .values .now) (l .values) (l .s) (l .i) (l .inv .0) (omega arith) (start .pre .1) (w .0 .taken),
       length-swapped (l .s) (l .i) (l .values) ∙ l .inv .1,
+      omega arith,
     ))
     (λ w. rw (w .1, w .2) (
       parting-out (a .lo) (a .hi) (a .v) (a .values .now) (l .values) (l .s) (l .i) (l .inv .0) (omega arith) (w .0 .left),
       l .inv .1,
+      omega arith,
     ))
     (c .if1 .came)
 
@@ -64,7 +69,10 @@ returns : tie.Need-returns Inv-loop μ-loop
 returns c =
     let l = c .before .loop in
     let a = c .before .before .before .args in
-    parting-done (a .lo) (a .hi) (a .v) (a .values .now) (l .values) (l .s) (l .i) (l .inv .0) (c .loop-test .left)
+    record {
+      parted = parting-done (a .lo) (a .hi) (a .v) (a .values .now) (l .values) (l .s) (l .i) (l .inv .0) (c .loop-test .left);
+      read = omega (arith, l .inv .0 .to);
+    }
 
 pub partition-spec : {M : Type 1} → statement M
 partition-spec =
@@ -73,6 +81,7 @@ partition-spec =
     Inv-loop
     μ-loop
     loop-holds
+    add-reads
     mul-if1
     slice-read-if1
     swap-requires

@@ -2,11 +2,10 @@
 use borrow.Author.Needs.{needs}
 use Rattle.cut.proofs.selection.select.Statement.{statement}
 use Rattle.cut.proofs.selection.select.Tie as tie
-use mathlib.Core.Path.{refl}
 use mathlib.Core.Logic.{⊎-elim}
-use Prim.Native.Nat.{_+_, _-_, _/_, _≤_}
+use Prim.Native.Nat.{_-_, _≤_}
 use native.Mathlib.Omega.{arith}
-use Rattle.cut.proofs.Selectings.{Rounds, selecting-start, reads-bounded, stopped-low, stopped-high, stopped-one, stopped-last, rounds-left, rounds-right}
+use Rattle.cut.proofs.Selectings.{Rounds, rounds-start, reads-bounded, stopped-low, stopped-high, stopped-one, stopped-last, rounds-left, rounds-right}
 
 abbrev Inv-loop : tie.InvT-loop
 Inv-loop values₀ lo middle hi p₀ q₀ a₀ b₀ reads₀ counter₀ values p q a b reads counter = Rounds lo middle hi values₀ values p q a b reads counter × (b ≤ b₀)
@@ -17,21 +16,13 @@ abbrev μ-loop : tie.MeasureT-loop
 span-of-requires : tie.Need-span-of-requires Inv-loop μ-loop
 span-of-requires c κs = search needs
 
-sub-reads : tie.Need-sub-reads Inv-loop μ-loop
-sub-reads c = search needs
-
 loop-holds : tie.Need-loop-holds Inv-loop μ-loop
 loop-holds c =
     let start = c .before .before .before in
-    let a = start .args in (
-      record {
-        state = selecting-start (a .lo) (a .middle) (a .hi) (a .values .now) (c .span-of .result .least) (c .span-of .result .greatest) (start .pre .0) (start .pre .1) (start .pre .2) (c .span-of .ensures);
-        few = omega arith;
-        left = omega arith;
-        read = omega arith;
-      },
-      omega arith,
-    )
+    let a = start .args in
+    let span = c .span-of .result .span in
+    let found = c .span-of .ensures in
+    (rw (found .read) (rounds-start (a .lo) (a .middle) (a .hi) (a .values .now) (span .least) (span .greatest) (start .pre .0) (start .pre .1) (start .pre .2) (omega arith) (found .spans)), omega arith)
 
 same-length : tie.Need-same-length Inv-loop μ-loop
 same-length c = c .before .before .loop .inv .0 .state .kept
@@ -66,17 +57,19 @@ sub-v c = search needs
 add-v : tie.Need-add-v Inv-loop μ-loop
 add-v c = search needs
 
-sub-reads-2 : tie.Need-sub-reads-2 Inv-loop μ-loop
-sub-reads-2 c = search needs
+partition-requires : tie.Need-partition-requires Inv-loop μ-loop
+partition-requires c κs = search needs
 
 add-reads : tie.Need-add-reads Inv-loop μ-loop
 add-reads c =
-    let a = c .before .before .before .before .before .before .before .before .args in
-    let l = c .before .before .before .before .loop in
-    omega (arith, reads-bounded (a .lo) (a .middle) (a .hi) (a .values .now) (l .values) (l .p) (l .q) (l .a) (l .b) (l .reads) (l .counter) (l .inv .0))
-
-partition-requires : tie.Need-partition-requires Inv-loop μ-loop
-partition-requires c κs = search needs
+    let at-loop = c .before .before .before .before .before .before .before .before .before in
+    let a = at-loop .before .before .before .before .args in
+    let l = at-loop .loop in
+    omega (
+      arith,
+      c .before .before .before .partition .ensures .read,
+      reads-bounded (a .lo) (a .middle) (a .hi) (a .values .now) (l .values) (l .p) (l .q) (l .a) (l .b) (l .reads) (l .counter) (l .inv .0),
+    )
 
 add-a : tie.Need-add-a Inv-loop μ-loop
 add-a c = search needs
@@ -89,20 +82,20 @@ loop-less c = search needs
 
 loop-again : tie.Need-loop-again Inv-loop μ-loop
 loop-again c =
-    let called = c .before .before .before in
-    let at-loop = c .before .before .before .before .before .before .before .before .before in
+    let called = c .before .before .before .before in
+    let at-loop = called .before .before .before .before .before .before in
     let start = at-loop .before .before .before .before in
     let a = start .args in
     let l = at-loop .loop in
     ⊎-elim
-    (λ w. rw (w .1, w .2, w .3, w .4) (
-      rounds-left (a .lo) (a .middle) (a .hi) (a .values .now) (l .values) (l .p) (l .q) (l .a) (l .b) (l .reads) (l .counter) (l .inv .0) (called .partition .last .0) (l .a + (l .b - l .a) / 2) (called .partition .result)
-          (called .partition .ensures) (start .pre .3) (omega arith) refl (omega arith) (w .0 .taken),
+    (λ w. rw (w .1, w .2, w .3, w .4, called .partition .ensures .read) (
+      rounds-left (a .lo) (a .middle) (a .hi) (a .values .now) (l .values) (l .p) (l .q) (l .a) (l .b) (l .reads) (l .counter) (l .inv .0) (called .partition .last .0) (called .partition .result .place)
+          (called .partition .ensures .parted) (start .pre .3) (omega arith) (omega arith) (omega arith) (omega arith) (w .0 .taken),
       omega arith,
     ))
-    (λ w. rw (w .1, w .2, w .3, w .4) (
-      rounds-right (a .lo) (a .middle) (a .hi) (a .values .now) (l .values) (l .p) (l .q) (l .a) (l .b) (l .reads) (l .counter) (l .inv .0) (called .partition .last .0) (l .a + (l .b - l .a) / 2) (called .partition .result)
-          (called .partition .ensures) (start .pre .3) (omega arith) refl (omega arith) (w .0 .left),
+    (λ w. rw (w .1, w .2, w .3, w .4, called .partition .ensures .read) (
+      rounds-right (a .lo) (a .middle) (a .hi) (a .values .now) (l .values) (l .p) (l .q) (l .a) (l .b) (l .reads) (l .counter) (l .inv .0) (called .partition .last .0) (called .partition .result .place)
+          (called .partition .ensures .parted) (start .pre .3) (omega arith) (omega arith) (omega arith) (omega arith) (w .0 .left),
       omega arith,
     ))
     (c .if4 .came)
@@ -123,7 +116,6 @@ select-spec =
     Inv-loop
     μ-loop
     span-of-requires
-    sub-reads
     loop-holds
     same-length
     returns
@@ -133,9 +125,8 @@ select-spec =
     returns-3
     sub-v
     add-v
-    sub-reads-2
-    add-reads
     partition-requires
+    add-reads
     add-a
     add-counter
     loop-less

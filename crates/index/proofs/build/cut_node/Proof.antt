@@ -89,7 +89,7 @@ returns c =
     let left = c .before .before .before .before .before .before .before .part-box in
     let right = c .before .before .before .before .before .part-box2 in
     let children = c .before .before .put-children in
-    node-cut (a .corners .now) (a .rings .now) (a .boxes .now) (a .parts .now) (a .edges .now) (a .p) (a .free) (children .last .0) (children .last .1 .0) (cut .last .1 .1 .0) (axis .result) (left .result) (right .result) (axis .ensures ∙ ap axisOf (rect .ensures)) (cut .ensures) (left .ensures) (right .ensures) (children .ensures)
+    node-cut (a .corners .now) (a .rings .now) (a .boxes .now) (a .parts .now) (a .edges .now) (a .p) (a .free) (children .last .0) (children .last .1 .0) (cut .last .1 .1 .0) (cut .result) (axis .result) (left .result) (right .result) (axis .ensures ∙ ap axisOf (rect .ensures)) (cut .ensures) (left .ensures) (right .ensures) (children .ensures)
 
 pub cut-node-spec : {M : Type 1} → statement M
 cut-node-spec =

@@ -5,10 +5,10 @@ use Rattle.walks.proofs.counted.all_queries.Statement.{statement}
 use Rattle.walks.proofs.counted.all_queries.Tie as tie
 
 abbrev Inv-loop : tie.InvT-loop
-Inv-loop boxes parts edges n together₀ k₀ together k = k ≤ 12
+Inv-loop boxes parts edges n holding together₀ k₀ together k = k ≤ 12
 
 abbrev μ-loop : tie.MeasureT-loop
-μ-loop boxes parts edges n together₀ k₀ together k = 12 - k
+μ-loop boxes parts edges n holding together₀ k₀ together k = 12 - k
 
 nothing-requires : tie.Need-nothing-requires Inv-loop μ-loop
 nothing-requires c κs = search needs

@@ -7,10 +7,10 @@ use Rattle.walks.proofs.counted.all_to.Statement.{statement}
 use Rattle.walks.proofs.counted.all_to.Tie as tie
 
 abbrev Inv-loop : tie.InvT-loop
-Inv-loop corners₀ boxes₀ parts₀ edges₀ last spread together₀ n₀ corners boxes parts edges together n = (n ≤ last) × (length corners ≡ length corners₀) × (length boxes ≡ length boxes₀) × (length parts ≡ length parts₀) × (length edges ≡ length edges₀)
+Inv-loop corners₀ boxes₀ parts₀ edges₀ last spread search together₀ n₀ corners boxes parts edges together n = (n ≤ last) × (length corners ≡ length corners₀) × (length boxes ≡ length boxes₀) × (length parts ≡ length parts₀) × (length edges ≡ length edges₀)
 
 abbrev μ-loop : tie.MeasureT-loop
-μ-loop corners₀ boxes₀ parts₀ edges₀ last spread together₀ n₀ corners boxes parts edges together n = last - n
+μ-loop corners₀ boxes₀ parts₀ edges₀ last spread search together₀ n₀ corners boxes parts edges together n = last - n
 
 nothing-requires : tie.Need-nothing-requires Inv-loop μ-loop
 nothing-requires c κs = search needs

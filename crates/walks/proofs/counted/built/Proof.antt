@@ -3,7 +3,7 @@ use borrow.Author.Needs.{needs}
 use mathlib.Core.Path.{sym, _∙_}
 use native.Mathlib.Omega.{arith}
 use Rattle.integers.proofs.Tests.{not-false}
-use Rattle.walks.proofs.Ring.{one-ring, near-corners}
+use Rattle.boxes.proofs.OneRing.{one-ring, near-corners}
 use Rattle.walks.proofs.counted.built.Statement.{statement}
 use Rattle.walks.proofs.counted.built.Tie as tie
 

@@ -7,10 +7,10 @@ use Rattle.walks.proofs.damage.all_box_fields.Statement.{statement}
 use Rattle.walks.proofs.damage.all_box_fields.Tie as tie
 
 abbrev Inv-loop : tie.InvT-loop
-Inv-loop boxes₀ parts edges n nodes together₀ k₀ boxes together k = (length boxes ≡ length boxes₀) × (k ≤ nodes * 24)
+Inv-loop corners boxes₀ parts edges n nodes search together₀ k₀ boxes together k = (length boxes ≡ length boxes₀) × (k ≤ nodes * 24)
 
 abbrev μ-loop : tie.MeasureT-loop
-μ-loop boxes₀ parts edges n nodes together₀ k₀ boxes together k = nodes * 24 - k
+μ-loop corners boxes₀ parts edges n nodes search together₀ k₀ boxes together k = nodes * 24 - k
 
 nothing-requires : tie.Need-nothing-requires Inv-loop μ-loop
 nothing-requires c κs = search needs

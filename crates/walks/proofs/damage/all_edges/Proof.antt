@@ -7,10 +7,10 @@ use Rattle.walks.proofs.damage.all_edges.Statement.{statement}
 use Rattle.walks.proofs.damage.all_edges.Tie as tie
 
 abbrev Inv-loop : tie.InvT-loop
-Inv-loop boxes parts edges₀ n together₀ k₀ edges together k = (length edges ≡ length edges₀) × (k ≤ n * 12)
+Inv-loop corners boxes parts edges₀ n search together₀ k₀ edges together k = (length edges ≡ length edges₀) × (k ≤ n * 12)
 
 abbrev μ-loop : tie.MeasureT-loop
-μ-loop boxes parts edges₀ n together₀ k₀ edges together k = n * 12 - k
+μ-loop corners boxes parts edges₀ n search together₀ k₀ edges together k = n * 12 - k
 
 nothing-requires : tie.Need-nothing-requires Inv-loop μ-loop
 nothing-requires c κs = search needs

@@ -7,10 +7,10 @@ use Rattle.walks.proofs.damage.all_part_fields.Statement.{statement}
 use Rattle.walks.proofs.damage.all_part_fields.Tie as tie
 
 abbrev Inv-loop : tie.InvT-loop
-Inv-loop boxes parts₀ edges n nodes together₀ k₀ parts together k = (length parts ≡ length parts₀) × (k ≤ nodes * 36)
+Inv-loop corners boxes parts₀ edges n nodes search together₀ k₀ parts together k = (length parts ≡ length parts₀) × (k ≤ nodes * 36)
 
 abbrev μ-loop : tie.MeasureT-loop
-μ-loop boxes parts₀ edges n nodes together₀ k₀ parts together k = nodes * 36 - k
+μ-loop corners boxes parts₀ edges n nodes search together₀ k₀ parts together k = nodes * 36 - k
 
 nothing-requires : tie.Need-nothing-requires Inv-loop μ-loop
 nothing-requires c κs = search needs

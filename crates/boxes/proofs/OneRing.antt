@@ -1,4 +1,4 @@
--- One ring of n corners in range meets what the builder asks. Assumes nothing.
+-- A plan of one ring: its ring table holds where the ring ends, and corners that were found in range are near. Assumes nothing.
 use mathlib.Core.Path.{_≡_, refl, sym, _∙_, ap}
 use mathlib.Core.Bool.{true}
 use mathlib.Core.List.{List, [], _∷_}
