@@ -1,0 +1,5 @@
+pub mod Paths
+pub mod Stopping
+pub mod Fitting
+pub mod Moving
+pub mod Caught
