@@ -1,0 +1,6 @@
+pub mod Rooms
+pub mod Filling
+pub mod Holding
+pub mod Indexing
+pub mod Readiness
+pub mod Caught
