@@ -1,0 +1,7 @@
+pub mod EdgesAlong
+pub mod Distances
+pub mod Pruned
+pub mod Whole
+pub mod PlanRings
+pub mod PlanAlong
+mod Worked

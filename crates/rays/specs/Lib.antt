@@ -1,0 +1,4 @@
+pub mod Along
+pub mod Doubles
+pub mod Numbered
+pub mod Reach
