@@ -1,0 +1,9 @@
+pub mod Counting
+pub mod Shifting
+pub mod Tallying
+pub mod Collecting
+pub mod Folding
+pub mod Placing
+pub mod Looking
+pub mod HalfCrossing
+pub mod Caught

@@ -1,0 +1,5 @@
+pub mod Slots
+pub mod Tallies
+pub mod Collections
+pub mod Regions
+pub mod Halves
