@@ -1,0 +1,4 @@
+pub mod Lookings
+pub mod Listing
+pub mod Agreement
+pub mod Caught

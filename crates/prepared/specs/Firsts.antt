@@ -1,0 +1,66 @@
+-- The first point of a list that is not outside (document 01, item 8, refusals 4 and 3 of a list of points).
+use mathlib.Core.Path.{_≡_}
+use mathlib.Core.Bool.{Bool, true, false, cond}
+use mathlib.Core.Logic.{_⊎_}
+use mathlib.Core.List.{List, [], _∷_}
+use Prim.Native.Nat.{ℕ, suc, _/_, _<_}
+use lib.Dec.{ltb}
+use lib.IntN.{ℤ}
+use lib.ListN.{length}
+use Rattle.geom.specs.declared.Point.{Point}
+use Rattle.rules.specs.declared.Location.{Location}
+use Rattle.rules.specs.declared.Refusal.{Refusal}
+use Rattle.rules.specs.declared.Refusal.the-variants.{Uneven, TooMany, Unsound}
+use Rattle.rules.specs.declared.State.{State}
+use Rattle.rules.specs.declared.Verdict.{Verdict}
+use Rattle.rules.specs.declared.Verdict.the-variants.{Accepted}
+use Rattle.rules.specs.declared.Verdict as Verdict
+use Rattle.rules.specs.Lists.{isOdd}
+use Rattle.rules.specs.Numbers.{refusalNumber}
+use Rattle.rules.specs.Plans.{cornersOf, planReply}
+use Rattle.rules.specs.Tables.{planOf}
+use Rattle.rings.specs.Places.{isOutside}
+use Rattle.gather.specs.Regions.{LookSound}
+use Rattle.prepared.specs.declared.first.First.{First}
+use Rattle.prepared.specs.declared.first.First.the-variants.{At, AllOutside, Refused}
+
+-- 4: more than 65,536 points, an odd list counted as half its length, rounded down; then 3: an odd list
+unfoldable pub pointsVerdict : List ℤ → Verdict
+pointsVerdict points =
+    cond (ltb 65536 (length points / 2)) (Verdict.the-variants.Refused TooMany)
+    (cond (isOdd (length points)) (Verdict.the-variants.Refused Uneven) Accepted)
+
+-- item 8: the place of the earliest point whose reply is not outside; the first of these points has place k
+unfoldable pub firstFrom : (Point → Location) → ℕ → List Point → First
+firstFrom reply k [] = AllOutside
+firstFrom reply k (p ∷ points) = cond (isOutside (reply p)) (firstFrom reply (suc k) points) (At k)
+
+abbrev pub firstOf : (Point → Location) → List Point → First
+firstOf reply points = firstFrom reply 0 points
+
+-- 0 where the list is answered, or the refusal's number
+abbrev pub firstNumber : First → ℕ
+firstNumber (At k) = 0
+firstNumber AllOutside = 0
+firstNumber (Refused refusal) = refusalNumber refusal
+
+-- 1 where a point is not outside, and its place
+abbrev pub firstFound : First → ℕ
+firstFound (At k) = 1
+firstFound AllOutside = 0
+firstFound (Refused refusal) = 0
+
+abbrev pub firstPlace : First → ℕ
+firstPlace (At k) = k
+firstPlace AllOutside = 0
+firstPlace (Refused refusal) = 0
+
+-- what is promised: refusals 4 and 3 of the list, on any plan; then none on a marked plan, and the plan's first on sound tables. On other
+-- tables a place of the list, none, or 15
+pub record FirstSays (state : State) (corners : List ℤ) (rings polygons : List ℕ) (boxes : List (List ℤ)) (parts : List (List ℕ)) (edges : List ℕ) (points : List ℤ) (r : First) : Type 0 where
+  pub judged : (refusal : Refusal) → pointsVerdict points ≡ Verdict.the-variants.Refused refusal → r ≡ Refused refusal
+  pub alone : (refusal : Refusal) → r ≡ Refused refusal → (pointsVerdict points ≡ Verdict.the-variants.Refused refusal) ⊎ (refusal ≡ Unsound)
+  pub inside : (k : ℕ) → r ≡ At k → k < length points / 2
+  pub marked : pointsVerdict points ≡ Accepted → state .«out_of_range» ≡ true → r ≡ AllOutside
+  pub exact : pointsVerdict points ≡ Accepted → state .«out_of_range» ≡ false → LookSound state corners rings polygons boxes parts edges
+      → r ≡ firstOf (planReply (planOf state corners rings polygons)) (cornersOf points)
