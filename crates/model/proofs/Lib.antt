@@ -1,0 +1,11 @@
+pub mod Corners
+pub mod Ways
+pub mod Tables
+pub mod Named
+pub mod Theorem
+pub mod Runs
+pub mod Marked
+pub mod Replays
+pub mod Worked
+pub mod Conditions
+pub mod Caught
