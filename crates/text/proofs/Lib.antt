@@ -9,5 +9,6 @@ pub mod Writing
 pub mod LineSearch
 pub mod Answers
 pub mod Largest
+pub mod Held
 mod Worked
 mod Caught

@@ -1,0 +1,9 @@
+mod FieldsAsked
+mod Lines
+mod Replying
+mod Searching
+mod Bounds
+mod Judged
+mod Outcomes
+mod Worked
+mod Caught

@@ -1,0 +1,26 @@
+-- `answers::replies::half_reply_at` meets its contract.
+use Rattle.rules.specs.Plans.{planVerdict, planHalfReply}
+use Rattle.answers.specs.Replies.{handed}
+use Rattle.answers.proofs.Lines.{accepted-reply, never-refused}
+use borrow.Author.Needs.{needs}
+use Rattle.answers.proofs.replies.half_reply_at.Statement.{statement}
+use Rattle.answers.proofs.replies.half_reply_at.Tie as tie
+
+locate-doubled-requires : tie.Need-locate-doubled-requires
+locate-doubled-requires c κs = search needs
+
+enum-known-location : tie.Need-enum-known-location
+enum-known-location c = search needs
+
+enum-told : tie.Need-enum-told
+enum-told c = search needs
+
+returns : tie.Need-returns
+returns c = let a = c .before .before .before .before .before .before .args in let plan = handed (a .kind) (a .corners .now) (a .lengths .now) (a .counts .now) in accepted-reply (planVerdict plan) (planHalfReply plan (a .p)) (c .before .location .given .0 .0) _ (c .before .before .before .before .before .before .pre) (c .before .before .before .locate-doubled .ensures) (c .before .location .given .1)
+
+returns-2 : tie.Need-returns-2
+returns-2 c = let a = c .before .before .before .before .before .args in let plan = handed (a .kind) (a .corners .now) (a .lengths .now) (a .counts .now) in never-refused (planVerdict plan) (planHalfReply plan (a .p)) _ _ (c .before .before .before .before .before .pre) (c .before .before .locate-doubled .ensures) (c .enum-told .given .1)
+
+pub half-reply-at-spec : {M : Type 1} → statement M
+half-reply-at-spec =
+    tie.close (tie.spec locate-doubled-requires enum-known-location enum-told returns returns-2)

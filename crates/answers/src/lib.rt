@@ -1,0 +1,92 @@
+// The whole of the program `findspot` but reading and writing: input bytes to output bytes (document 01, "Trays to try").
+ghost use Prim.Native.Nat.{_≤_};
+ghost use lib.ListN.{length};
+ghost use Rattle.fields.specs.Pieces.{split};
+ghost use Rattle.fields.specs.Written.{Wrote};
+ghost use Rattle.text.specs.Plans.{meaning};
+ghost use Rattle.answers.specs.Answers.{planText, judged, Tables, Answered};
+
+mod parts;
+mod queries;
+mod replies;
+
+use parts::first_query;
+use replies::line_named;
+use replies::put_refusal;
+use replies::put_replies;
+use rules::refusal_number;
+use text::Reading;
+use text::read_plan;
+
+/// The most bytes that an input may have.
+pub const MAX_INPUT: usize = 16384;
+
+/// The fewest bytes that an output may have. No answer has more than 33,000.
+pub const MIN_OUTPUT: usize = 65536;
+
+/// What answering an input comes to.
+pub enum Outcome {
+    /// The answer is in the output, and this is how many bytes it has.
+    Written(usize),
+    /// 11: the output has fewer than 65,536 bytes. Nothing was written.
+    OutputTooShort,
+}
+
+// The answer to an input of at most 16,384 bytes, by tables of 512 corners, 256 rings and 256 polygons.
+fn answer_in(
+    input: &[u8],
+    corners: &mut [i64],
+    lengths: &mut [usize],
+    counts: &mut [usize],
+    output: &mut [u8],
+) -> usize
+    requires { ⌜ (length (now input) ≤ 16384) × (65536 ≤ length (now output)) × Tables (now corners) (now lengths) (now counts) ⌝ }
+    ensures { λ r. ⌜ Wrote 0 (judged (meaning (planText (split 10 (now (input .entry))))) (split 10 (now (input .entry)))) (now (output .entry)) (now (output .exit)) r ⌝ }
+{
+    let place = first_query(input);
+    let from = place.from;
+    let line = place.line;
+    match read_plan(&input[..from], corners, lengths, counts) {
+        Reading::Read(size) => {
+            let kind = size.kind;
+            let n = 2 * size.corners;
+            let r = size.rings;
+            let q = size.polygons;
+            put_replies(
+                kind,
+                &corners[..n],
+                &lengths[..r],
+                &counts[..q],
+                input,
+                from,
+                line,
+                output,
+            )
+        }
+        Reading::Refused(refusal) => {
+            put_refusal(output, 0, refusal_number(refusal), line_named(refusal))
+        }
+    }
+}
+
+/// Writes what `findspot` answers to an input at the output's start; the rest of the output stays as it was.
+///
+/// The lines before the first one whose first field is `coin` or `half` are the plan. It is judged first; then each later line is replied to
+/// in turn: its own bytes, a tab, and `inside`, `outside` or `boundary`. A refusal writes `refused`, its number and the line (0 where none),
+/// and nothing after it: 1 for an input of more than 16,384 bytes, 2 for the first line that breaks the format, 11 for a plan of more than
+/// 512 corners or 256 rings. All of these are `Written`. Refused with 11 (`OutputTooShort`), with nothing written, where the output has
+/// fewer than 65,536 bytes.
+pub fn answer(input: &[u8], output: &mut [u8]) -> Outcome
+    ensures { λ r. ⌜ Answered (now (input .entry)) (now (output .entry)) (now (output .exit)) r ⌝ }
+{
+    if output.len() < MIN_OUTPUT {
+        return Outcome::OutputTooShort;
+    }
+    if MAX_INPUT < input.len() {
+        return Outcome::Written(put_refusal(output, 0, 1, 0));
+    }
+    let mut corners = [0i64; 1024];
+    let mut lengths = [0usize; 256];
+    let mut counts = [0usize; 256];
+    Outcome::Written(answer_in(input, &mut corners, &mut lengths, &mut counts, output))
+}

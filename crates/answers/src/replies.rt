@@ -1,0 +1,179 @@
+// What is written for the lines after the plan, and for a refusal (document 01, "Trays to try").
+ghost use mathlib.Core.Path.{_≡_};
+ghost use Prim.Native.Nat.{_+_, _≤_};
+ghost use lib.ListN.{length, drop};
+ghost use Rattle.fields.specs.Pieces.{split};
+ghost use Rattle.fields.specs.Written.{Wrote};
+ghost use Rattle.rules.specs.declared.Verdict.the-variants.{Accepted};
+ghost use Rattle.rules.specs.Plans.{planVerdict, planReply, planHalfReply};
+ghost use Rattle.answers.specs.Replies.{placeWord, replyWord, replyLine, numberField, refusalLine, lineNamed, replies, handed, Due};
+use crate::queries::Line;
+use crate::queries::Query;
+use crate::queries::read_query;
+use fields::find;
+use fields::write::put;
+use fields::write::put_digits;
+use geom::Point;
+use query::locate;
+use query::locate_doubled;
+use rules::Kind;
+use rules::Location;
+use rules::Refusal;
+use rules::Reply;
+
+// Where a point of the grid lies in a plan that was accepted.
+fn reply_at(kind: Kind, corners: &[i64], lengths: &[usize], counts: &[usize], p: Point) -> Location
+    requires { ⌜ planVerdict (handed kind (now corners) (now lengths) (now counts)) ≡ Accepted ⌝ }
+    ensures { λ r. ⌜ r ≡ planReply (handed kind (now (corners .entry)) (now (lengths .entry)) (now (counts .entry))) p ⌝ }
+{
+    match locate(kind, corners, lengths, counts, p) {
+        Reply::At(location) => location,
+        // No accepted plan comes to this.
+        Reply::Refused(_) => Location::Outside,
+    }
+}
+
+// Where a point of the half-grid, named by its double, lies in a plan that was accepted.
+fn half_reply_at(
+    kind: Kind,
+    corners: &[i64],
+    lengths: &[usize],
+    counts: &[usize],
+    p: Point,
+) -> Location
+    requires { ⌜ planVerdict (handed kind (now corners) (now lengths) (now counts)) ≡ Accepted ⌝ }
+    ensures { λ r. ⌜ r ≡ planHalfReply (handed kind (now (corners .entry)) (now (lengths .entry)) (now (counts .entry))) p ⌝ }
+{
+    match locate_doubled(kind, corners, lengths, counts, p) {
+        Reply::At(location) => location,
+        // No accepted plan comes to this.
+        Reply::Refused(_) => Location::Outside,
+    }
+}
+
+// The word of a place.
+fn put_place(output: &mut [u8], at: usize, location: Location) -> usize
+    requires { ⌜ at + length (placeWord location) ≤ length (now output) ⌝ }
+    ensures { λ r. ⌜ Wrote at (placeWord location) (now (output .entry)) (now (output .exit)) r ⌝ }
+{
+    match location {
+        Location::Outside => put(output, at, b"outside"),
+        Location::Inside => put(output, at, b"inside"),
+        Location::OnBoundary => put(output, at, b"boundary"),
+    }
+}
+
+// The word that a query gets.
+fn put_word(
+    kind: Kind,
+    corners: &[i64],
+    lengths: &[usize],
+    counts: &[usize],
+    query: Query,
+    output: &mut [u8],
+    at: usize,
+) -> usize
+    requires { ⌜ (planVerdict (handed kind (now corners) (now lengths) (now counts)) ≡ Accepted) × (at + length (replyWord (handed kind (now corners) (now lengths) (now counts)) query) ≤ length (now output)) ⌝ }
+    ensures { λ r. ⌜ Wrote at (replyWord (handed kind (now (corners .entry)) (now (lengths .entry)) (now (counts .entry))) query) (now (output .entry)) (now (output .exit)) r ⌝ }
+{
+    match query {
+        Query::OnGrid(p) => put_place(output, at, reply_at(kind, corners, lengths, counts, p)),
+        Query::Doubled(p) => {
+            put_place(output, at, half_reply_at(kind, corners, lengths, counts, p))
+        }
+    }
+}
+
+// The line of a reply: the query's line as it stands, and the word.
+fn put_reply(
+    kind: Kind,
+    corners: &[i64],
+    lengths: &[usize],
+    counts: &[usize],
+    line: &[u8],
+    query: Query,
+    output: &mut [u8],
+    at: usize,
+) -> usize
+    requires { ⌜ (planVerdict (handed kind (now corners) (now lengths) (now counts)) ≡ Accepted) × (at + length (replyLine (now line) (replyWord (handed kind (now corners) (now lengths) (now counts)) query)) ≤ length (now output)) ⌝ }
+    ensures { λ r. ⌜ Wrote at (replyLine (now (line .entry)) (replyWord (handed kind (now (corners .entry)) (now (lengths .entry)) (now (counts .entry))) query)) (now (output .entry)) (now (output .exit)) r ⌝ }
+{
+    let repeated = put(output, at, line);
+    let parted = put(output, repeated, b"\t");
+    let replied = put_word(kind, corners, lengths, counts, query, output, parted);
+    put(output, replied, b"\n")
+}
+
+// A further field with a number.
+fn put_number(output: &mut [u8], at: usize, n: usize) -> usize
+    requires { ⌜ at + length (numberField n) ≤ length (now output) ⌝ }
+    ensures { λ r. ⌜ Wrote at (numberField n) (now (output .entry)) (now (output .exit)) r ⌝ }
+{
+    let parted = put(output, at, b"\t");
+    put_digits(output, parted, n)
+}
+
+/// The line of a refusal: its number, and the line that it names.
+pub(crate) fn put_refusal(output: &mut [u8], at: usize, number: usize, line: usize) -> usize
+    requires { ⌜ at + length (refusalLine number line) ≤ length (now output) ⌝ }
+    ensures { λ r. ⌜ Wrote at (refusalLine number line) (now (output .entry)) (now (output .exit)) r ⌝ }
+{
+    let named = put(output, at, b"refused");
+    let numbered = put_number(output, named, number);
+    let placed = put_number(output, numbered, line);
+    put(output, placed, b"\n")
+}
+
+/// The line that a refusal names: 0 where it names none.
+pub(crate) fn line_named(refusal: Refusal) -> usize
+    ensures { λ r. ⌜ r ≡ lineNamed refusal ⌝ }
+{
+    match refusal {
+        Refusal::TextTooLong => 0,
+        Refusal::BadLine(line) => line,
+        Refusal::Uneven => 0,
+        Refusal::TooMany => 0,
+        Refusal::NoSuchCorner => 0,
+        Refusal::PlaceOutOfRange => 0,
+        Refusal::TableTooShort(_) => 0,
+        Refusal::PlanOutOfRange => 0,
+        Refusal::UndoFull => 0,
+        Refusal::NothingToUndo => 0,
+        Refusal::Unsound => 0,
+    }
+}
+
+/// What is written for the lines of an input from a line on, whose number is given: a reply for each, or a refusal after which nothing is
+/// written. What is returned is how many bytes there are.
+pub(crate) fn put_replies(
+    kind: Kind,
+    corners: &[i64],
+    lengths: &[usize],
+    counts: &[usize],
+    input: &[u8],
+    first: usize,
+    number: usize,
+    output: &mut [u8],
+) -> usize
+    requires { ⌜ Due (handed kind (now corners) (now lengths) (now counts)) (now input) first number (now output) ⌝ }
+    ensures { λ r. ⌜ Wrote 0 (replies (handed kind (now (corners .entry)) (now (lengths .entry)) (now (counts .entry))) number (split 10 (drop first (now (input .entry))))) (now (output .entry)) (now (output .exit)) r ⌝ }
+{
+    let mut at = 0;
+    let mut line = number;
+    let mut from = first;
+    let mut end = find(input, b'\n', from);
+    while end < input.len() {
+        let row = &input[from..end];
+        let Line::Asks(query) = read_query(row) else {
+            return put_refusal(output, at, 2, line);
+        };
+        at = put_reply(kind, corners, lengths, counts, row, query, output, at);
+        line += 1;
+        from = end + 1;
+        end = find(input, b'\n', from);
+    }
+    if from < end {
+        return put_refusal(output, at, 2, line);
+    }
+    at
+}
