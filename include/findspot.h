@@ -30,8 +30,74 @@ enum {
     FINDSPOT_INSIDE = 1,
     FINDSPOT_BOUNDARY = 2,
     FINDSPOT_TEXT_TOO_LONG = -1,
-    FINDSPOT_BAD_LINE = -2
+    FINDSPOT_BAD_LINE = -2,
+    FINDSPOT_UNSOUND = -15
 };
+
+/*
+ * Prepared plans. The caller lends every table and keeps the state; a table is a pointer that is not NULL and how many entries it has.
+ * A box is four numbers (least x, least y, greatest x, greatest y), a part three (first place, number of places, left child's place).
+ *
+ * The state: kind 0 a list, 1 a tree; out_of_range 0 or 1; how many corners, rings and polygons the plan has; how many corrections can be
+ * undone. A kind or mark that is another number is answered with 15 (FINDSPOT_UNSOUND where the answer is one number), before all else.
+ */
+typedef struct {
+    size_t kind, out_of_range, corners, rings, polygons, undo_depth;
+} findspot_state;
+
+/* The refusal number or 0; the table that refusal 11 names (1 corners, 2 rings, 3 polygons, 4 nodes, 5 edges) or 0; the number of nodes. */
+typedef struct {
+    size_t refusal, table, nodes;
+    findspot_state state;
+} findspot_preparing;
+
+/* The refusal number or 0; 1 where a point is not outside; its place from 0. */
+typedef struct {
+    size_t refusal, found, place;
+} findspot_first;
+
+/*
+ * Prepares a plan: coordinates x, y, x, y, .., the length of each ring, the number of rings of each polygon (not looked at for a tree). For n
+ * corners the tables need 2n corner numbers, an entry a ring and a polygon, N(n) rows of boxes and of parts, and n edges, where N(n) is 1 up to
+ * 8 and else 1 + N(n / 2) + N(n - n / 2). Refused with 4, 3 or 11 (or 15 for another kind) it writes nothing. A plan with a corner
+ * out of range is accepted with no nodes; every point is outside of it.
+ */
+findspot_preparing findspot_prepare(size_t kind, const int64_t *coordinates, size_t coordinate_count, const size_t *lengths,
+                                    size_t length_count, const size_t *counts, size_t count_count, int64_t *corners,
+                                    size_t corner_count, size_t *rings, size_t ring_count, size_t *polygons,
+                                    size_t polygon_count, int64_t (*boxes)[4], size_t box_count, size_t (*parts)[3],
+                                    size_t part_count, size_t *edges, size_t edge_count);
+
+/*
+ * Where the point lies, through the boxes: a place, or FINDSPOT_UNSOUND where a table is shorter than the state says or a number leads outside
+ * its table. Tables that the library did not make may get either. They are only read; a call takes up to 600 KB of stack. The doubled
+ * form takes twice the point, each coordinate within 2^41.
+ */
+int64_t findspot_locate(findspot_state state, const int64_t *corners, size_t corner_count, const size_t *rings, size_t ring_count,
+                        const size_t *polygons, size_t polygon_count, const int64_t (*boxes)[4], size_t box_count,
+                        const size_t (*parts)[3], size_t part_count, const size_t *edges, size_t edge_count, int64_t x,
+                        int64_t y);
+int64_t findspot_locate_doubled(findspot_state state, const int64_t *corners, size_t corner_count, const size_t *rings,
+                                size_t ring_count, const size_t *polygons, size_t polygon_count,
+                                const int64_t (*boxes)[4], size_t box_count, const size_t (*parts)[3],
+                                size_t part_count, const size_t *edges, size_t edge_count, int64_t x, int64_t y);
+
+/* The same ring by ring. */
+int64_t findspot_locate_by_rings(findspot_state state, const int64_t *corners, size_t corner_count, const size_t *rings,
+                                 size_t ring_count, const size_t *polygons, size_t polygon_count, int64_t x, int64_t y);
+int64_t findspot_locate_doubled_by_rings(findspot_state state, const int64_t *corners, size_t corner_count,
+                                         const size_t *rings, size_t ring_count, const size_t *polygons,
+                                         size_t polygon_count, int64_t x, int64_t y);
+
+/*
+ * The first of the listed points x, y, x, y, .. that is not outside; point_count is the number of coordinates. Refused with 4 (more than 65,536
+ * points), 3 (a y is missing) or 15, as a look-up is.
+ */
+findspot_first findspot_first_not_outside(findspot_state state, const int64_t *corners, size_t corner_count, const size_t *rings,
+                                          size_t ring_count, const size_t *polygons, size_t polygon_count,
+                                          const int64_t (*boxes)[4], size_t box_count, const size_t (*parts)[3],
+                                          size_t part_count, const size_t *edges, size_t edge_count,
+                                          const int64_t *points, size_t point_count);
 
 #ifdef __cplusplus
 }

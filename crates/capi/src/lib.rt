@@ -1,7 +1,11 @@
-// The C entry for the server (document 01, item 11).
+// The C entry for the server (document 01, item 11), and the exports for one that keeps prepared plans.
 ghost use mathlib.Core.Path.{_≡_};
 ghost use Rattle.rules.specs.Numbers.{replyNumber};
 ghost use Rattle.capi.specs.Replies.{textReply, Roomy};
+
+pub mod exports;
+pub mod states;
+
 use geom::Point;
 use query::locate;
 use rules::Reply;

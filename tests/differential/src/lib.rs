@@ -1,7 +1,8 @@
 //! Replies of the original Rust to location queries, beside those of document 01's rules.
 //!
 //! [`oracle`] replies for the original, and [`stored`] writes cases with its replies as text. The
-//! cases and the rules are those of [`plans`].
+//! cases and the rules are those of [`plans`]. [`classes`] counts what came up.
 
+pub mod classes;
 pub mod oracle;
 pub mod stored;

@@ -1,7 +1,7 @@
 //! The replies of the original Rust.
 
 use plans::plan::{DOUBLED_LIMIT, Kind, Mode, Plan, Query, Ring, within};
-use polyclip::{Location, Point, PolyNode, PolyTree, Polygon, Preparable, Prepared};
+use polyclip::{Geometry, Location, Point, PolyNode, PolyTree, Polygon, Preparable, Prepared};
 
 /// The original's replies to points asked of one plan, which is prepared once:
 /// 0 outside, 1 inside, 2 boundary.
@@ -10,6 +10,13 @@ pub fn replies(plan: &Plan, queries: &[Query]) -> Vec<u8> {
         Kind::List => replies_of(&list(plan), plan, queries),
         Kind::Tree => replies_of(&tree(plan), plan, queries),
     }
+}
+
+/// The original's place of the first point, in a list of polygons, that is not outside.
+pub fn first_not_outside(plan: &Plan, points: &[(i64, i64)]) -> Option<usize> {
+    let points: Vec<Point> = points.iter().map(|&(x, y)| Point::new(x, y)).collect();
+    let found = list(plan).first_not_outside(&points)?;
+    points.iter().position(|&point| point == found)
 }
 
 /// The plan as the original's list of polygons.

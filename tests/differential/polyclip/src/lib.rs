@@ -13,7 +13,7 @@ mod node;
 
 pub use geom::{Point, PolyNode, PolyTree, Polygon, Ring};
 pub use prepared::{Preparable, Prepared};
-pub use query::Location;
+pub use query::{Geometry, Location};
 
 /// Stands in for `libm::hypot`.
 pub fn hypot(x: f64, y: f64) -> f64 {

@@ -1,0 +1,66 @@
+-- From the numbers that name a kind or a state to what is answered. Assumes nothing.
+use mathlib.Core.Path.{_≡_, sym, ap, subst, _∙_}
+use mathlib.Core.Bool.{cond}
+use Prim.Native.Nat.{ℕ}
+use lib.Dec.{eqb}
+use lib.IntN.{ℤ}
+use mir.Syntax.{w64}
+use mir.Val.{SFits}
+use borrow.Author.Tests.{ne-eqb}
+use Rattle.geom.specs.declared.Point.{Point}
+use Rattle.integers.proofs.Bits.{rd, rd-is}
+use Rattle.rules.specs.declared.Kind.{Kind}
+use Rattle.rules.specs.declared.Refusal.the-variants.{Unsound}
+use Rattle.rules.specs.declared.Reply.{Reply}
+use Rattle.rules.specs.declared.Reply as Reply
+use Rattle.rules.specs.declared.State.{State}
+use Rattle.rules.specs.Numbers.{replyNumber}
+use Rattle.prepare.specs.declared.Preparing.{Preparing}
+use Rattle.prepare.specs.declared.Preparing as Preparing
+use Rattle.prepared.specs.declared.first.First.{First}
+use Rattle.prepared.specs.declared.first.First as First
+use Rattle.capi.specs.declared.states.NamedKind.{NamedKind}
+use Rattle.capi.specs.declared.states.NamedKind as NamedKind
+use Rattle.capi.specs.declared.states.NamedState.{NamedState}
+use Rattle.capi.specs.declared.states.NamedState.the-variants.{Known, Unknown}
+use Rattle.capi.specs.declared.exports.FirstAnswer.{FirstAnswer}
+use Rattle.capi.specs.declared.exports.PrepareAnswer.{PrepareAnswer}
+use Rattle.capi.specs.Exports.{Replied, Listed, PrepareSays, firstNumbers, prepareNumbers}
+
+-- ---- 0, 1, or another number
+
+pub by-zero : {A : Type 0} (a b c : A) (n : ℕ) → n ≡ 0 → cond (eqb n 0) a (cond (eqb n 1) b c) ≡ a
+by-zero a b c n e = ap (λ m. cond (eqb m 0) a (cond (eqb m 1) b c)) e
+
+pub by-one : {A : Type 0} (a b c : A) (n : ℕ) → n ≡ 1 → cond (eqb n 0) a (cond (eqb n 1) b c) ≡ b
+by-one a b c n e = ap (λ m. cond (eqb m 0) a (cond (eqb m 1) b c)) e
+
+pub by-other : {A : Type 0} (a b c : A) (n : ℕ) → (n ≡ 0 → ⊥) → (n ≡ 1 → ⊥) → cond (eqb n 0) a (cond (eqb n 1) b c) ≡ c
+by-other a b c n not-zero not-one = ap (λ t. cond t a (cond (eqb n 1) b c)) (ne-eqb n 0 not-zero) ∙ ap (λ t. cond t b c) (ne-eqb n 1 not-one)
+
+-- ---- look-ups
+
+pub replied-unknown : (named : NamedState) (Promised : State → Reply → Type 0) (answer : ℤ) → named ≡ Unknown → answer ≡ replyNumber (Reply.the-variants.Refused Unsound) → Replied named Promised answer
+replied-unknown named Promised answer e is = subst (λ n. Replied n Promised answer) (sym e) is
+
+-- the point's numbers were read from bits
+pub replied-known : (named : NamedState) (state : State) (x y : ℤ) (Promised : Point → State → Reply → Type 0) (reply : Reply) (answer : ℤ) → named ≡ Known state → SFits w64 x → SFits w64 y → Promised (record { x = rd x; y = rd y }) state reply → answer ≡ replyNumber reply → Replied named (Promised (record { x = x; y = y })) answer
+replied-known named state x y Promised reply answer e fx fy promised is =
+    subst (λ n. Replied n (Promised (record { x = x; y = y })) answer) (sym e)
+    (reply, subst (λ p. Promised p state reply) (λ i. record { x = rd-is x fx i; y = rd-is y fy i }) promised, is)
+
+-- ---- lists of points
+
+pub listed-unknown : (named : NamedState) (Promised : State → First → Type 0) (answer : FirstAnswer) → named ≡ Unknown → answer ≡ firstNumbers (First.the-variants.Refused Unsound) → Listed named Promised answer
+listed-unknown named Promised answer e is = subst (λ n. Listed n Promised answer) (sym e) is
+
+pub listed-known : (named : NamedState) (state : State) (Promised : State → First → Type 0) (first : First) (answer : FirstAnswer) → named ≡ Known state → Promised state first → answer ≡ firstNumbers first → Listed named Promised answer
+listed-known named state Promised first answer e promised is = subst (λ n. Listed n Promised answer) (sym e) (first, promised, is)
+
+-- ---- preparing
+
+pub prepare-unknown : (named : NamedKind) (Promised : Kind → Preparing → Type 0) (Same : Type 0) (answer : PrepareAnswer) → named ≡ NamedKind.the-variants.Unknown → Same → answer ≡ prepareNumbers (Preparing.the-variants.Refused Unsound) → PrepareSays named Promised Same answer
+prepare-unknown named Promised Same answer e same is = subst (λ n. PrepareSays n Promised Same answer) (sym e) (same, is)
+
+pub prepare-known : (named : NamedKind) (kind : Kind) (Promised : Kind → Preparing → Type 0) (Same : Type 0) (preparing : Preparing) (answer : PrepareAnswer) → named ≡ NamedKind.the-variants.Known kind → Promised kind preparing → answer ≡ prepareNumbers preparing → PrepareSays named Promised Same answer
+prepare-known named kind Promised Same preparing answer e promised is = subst (λ n. PrepareSays n Promised Same answer) (sym e) (preparing, promised, is)

@@ -1,0 +1,52 @@
+-- What the exports over lent tables answer (document 01, items 6 to 8 and 11).
+use mathlib.Core.Path.{_≡_}
+use Prim.Native.Nat.{ℕ}
+use lib.IntN.{ℤ}
+use Rattle.rules.specs.declared.Kind.{Kind}
+use Rattle.rules.specs.declared.Refusal.{Refusal}
+use Rattle.rules.specs.declared.Refusal.the-variants.{Unsound}
+use Rattle.rules.specs.declared.Reply.{Reply}
+use Rattle.rules.specs.declared.Reply.the-variants.{Refused}
+use Rattle.rules.specs.declared.State.{State}
+use Rattle.rules.specs.Numbers.{refusalNumber, refusalDetail, replyNumber}
+use Rattle.prepare.specs.declared.Preparing.{Preparing}
+use Rattle.prepare.specs.declared.Preparing.the-variants.{Ready}
+use Rattle.prepare.specs.declared.Preparing as Preparing
+use Rattle.prepared.specs.declared.first.First.{First}
+use Rattle.prepared.specs.declared.first.First as First
+use Rattle.prepared.specs.Firsts.{firstNumber, firstFound, firstPlace}
+use Rattle.capi.specs.declared.states.StateNumbers.{StateNumbers}
+use Rattle.capi.specs.declared.states.NamedKind.{NamedKind}
+use Rattle.capi.specs.declared.states.NamedKind as NamedKind
+use Rattle.capi.specs.declared.states.NamedState.{NamedState}
+use Rattle.capi.specs.declared.states.NamedState.the-variants.{Known, Unknown}
+use Rattle.capi.specs.declared.exports.PrepareAnswer.{PrepareAnswer}
+use Rattle.capi.specs.declared.exports.FirstAnswer.{FirstAnswer}
+use Rattle.capi.specs.States.{stateNumbers}
+
+-- a look-up's number, by what is promised of its reply; 15 where the numbers name no state
+abbrev pub Replied : NamedState → (State → Reply → Type 0) → ℤ → Type 0
+Replied Unknown Promised answer = answer ≡ replyNumber (Refused Unsound)
+Replied (Known state) Promised answer = (reply : Reply) × Promised state reply × (answer ≡ replyNumber reply)
+
+-- what a list of points is answered in numbers
+abbrev pub firstNumbers : First → FirstAnswer
+firstNumbers first = record { refusal = firstNumber first; found = firstFound first; place = firstPlace first }
+
+abbrev pub Listed : NamedState → (State → First → Type 0) → FirstAnswer → Type 0
+Listed Unknown Promised answer = answer ≡ firstNumbers (First.the-variants.Refused Unsound)
+Listed (Known state) Promised answer = (first : First) × Promised state first × (answer ≡ firstNumbers first)
+
+-- the numbers of no state
+abbrev pub noState : StateNumbers
+noState = record { kind = 0; «out_of_range» = 0; corners = 0; rings = 0; polygons = 0; «undo_depth» = 0 }
+
+-- what preparing answers in numbers
+abbrev pub prepareNumbers : Preparing → PrepareAnswer
+prepareNumbers (Ready state nodes) = record { refusal = 0; table = 0; nodes = nodes; state = stateNumbers state }
+prepareNumbers (Preparing.the-variants.Refused refusal) = record { refusal = refusalNumber refusal; table = refusalDetail refusal; nodes = 0; state = noState }
+
+-- by what is promised of a plan of this kind; 15, and the tables as they were, where the number names no kind
+abbrev pub PrepareSays : NamedKind → (Kind → Preparing → Type 0) → Type 0 → PrepareAnswer → Type 0
+PrepareSays NamedKind.the-variants.Unknown Promised Same answer = Same × (answer ≡ prepareNumbers (Preparing.the-variants.Refused Unsound))
+PrepareSays (NamedKind.the-variants.Known kind) Promised Same answer = (preparing : Preparing) × Promised kind preparing × (answer ≡ prepareNumbers preparing)
