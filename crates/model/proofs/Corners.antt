@@ -6,8 +6,8 @@ use Prim.Native.Nat.{ℕ, suc, _+_, _*_, _/_, _≤_, _<_}
 use native.Mathlib.Omega.{arith}
 use lib.Dec.{eqb, ltb}
 use lib.IntN.{ℤ, pos}
-use lib.ListN.{length, getD, set, take, length-set}
-use lib.Seq.{getD-set-same, getD-set-other, getD-take, length-take-le, set-set, set-comm, set-getD, take-set-lt}
+use lib.ListN.{length, getD, set, take, drop, length-set}
+use lib.Seq.{getD-set-same, getD-set-other, getD-take, length-take-le, set-set, set-comm, set-getD, take-set-lt, drop-set-lt}
 use Rattle.geom.specs.declared.Point.{Point}
 use Rattle.geom.specs.Boxes.{rectOf}
 use Rattle.geom.specs.Range.{inRange}
@@ -60,6 +60,10 @@ pub put-take : (n : ℕ) (corners : List ℤ) (i : ℕ) (place : Point) → i < 
 put-take n corners i place h =
     take-set-lt (2 * n) (set corners (2 * i) (place .x)) (2 * i + 1) (place .y) (omega arith)
     ∙ ap (λ l. set l (2 * i + 1) (place .y)) (take-set-lt (2 * n) corners (2 * i) (place .x) (omega arith))
+
+-- and what stands after them stays
+pub put-drop : (n : ℕ) (corners : List ℤ) (i : ℕ) (place : Point) → i < n → drop (2 * n) (putCorner corners i place) ≡ drop (2 * n) corners
+put-drop n corners i place h = drop-set-lt (2 * n) (set corners (2 * i) (place .x)) (2 * i + 1) (place .y) (omega arith) ∙ drop-set-lt (2 * n) corners (2 * i) (place .x) (omega arith)
 
 pub corner-take : (n : ℕ) (corners : List ℤ) (i : ℕ) → i < n → cornerAt (take (2 * n) corners) i ≡ cornerAt corners i
 corner-take n corners i h = λ t. record { x = getD-take (2 * n) corners (2 * i) (pos 0) (omega arith) t; y = getD-take (2 * n) corners (2 * i + 1) (pos 0) (omega arith) t }

@@ -5,7 +5,6 @@ pub mod Named
 pub mod Theorem
 pub mod Runs
 pub mod Marked
-pub mod Replays
 pub mod Worked
 pub mod Conditions
 pub mod Caught

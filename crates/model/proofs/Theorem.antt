@@ -9,7 +9,7 @@ use native.Mathlib.Omega.{arith}
 use borrow.Author.Tests.{le-leb, eq-eqb, ne-eqb}
 use lib.Dec.{leb}
 use lib.IntN.{ℤ, pos}
-use lib.ListN.{length, getD, set, take, length-set}
+use lib.ListN.{length, getD, set, take, drop, length-set}
 use lib.Seq.{getD-set-same, getD-set-other, ext-getD}
 use Rattle.geom.specs.declared.Point.{Point}
 use Rattle.geom.specs.Range.{inRange, inDoubledRange}
@@ -33,16 +33,11 @@ use Rattle.model.specs.Entries.{putCorner, putBack, Entry, entryOf, entr
 use Rattle.model.specs.Model.{Model, Line, standing, refuse, accept, pushed, modelLocate, modelLocateDoubled, modelCall, answersFrom, modelFrom, opened}
 use Rattle.model.specs.Prepared.{Prepared, planHeld, Sound}
 use Rattle.model.specs.Steps.{refusing, undoEarly, lookEarly, early, atDepth, movedState, movedUndo, Moves, latest, TakesBack, Step}
-use Rattle.model.specs.Demand.{Turn, callsOf, answersOf, Run, endOf, Changes, Allowed, Framed, Frames, Fresh, AsFirst, lent, Demand}
-use Rattle.model.proofs.Corners.{put-length, put-other, put-same, put-back, put-take, corner-take, count-take}
+use Rattle.model.specs.Demand.{Turn, callsOf, answersOf, Run, endOf, Changes, Allowed, Framed, Frames, Fresh, AsFirst, lent, Stacked, Leaves, Demand}
+use Rattle.model.proofs.Corners.{put-length, put-other, put-same, put-back, put-take, put-drop, corner-take, count-take}
 use Rattle.model.proofs.Ways.{accepted-refused, unrecorded-same, open-move}
 
 -- ---- the undo stack, in the undo table and as what it takes back
-
--- the records below the depth are the stack's entries, the top last
-Stacked : List (List ℤ) → List Entry → Type 0
-Stacked undo [] = Unit {0}
-Stacked undo (entry ∷ rest) = (getD undo (length rest) [] ≡ undoRow entry) × Stacked undo rest
 
 stacked-set : (undo : List (List ℤ)) (k : ℕ) (row : List ℤ) (stack : List Entry) → length stack ≤ k → Stacked undo stack → Stacked (set undo k row) stack
 unfolding Stacked
@@ -67,6 +62,7 @@ record Agrees (d₀ : Prepared) (corners : List ℤ) (stack : List Entry) (d : P
   edges : d .edges ≡ d₀ .edges
   room : length (d .undo) ≡ lent d₀
   corners-are : take (2 * d₀ .state .corners) (d .corners) ≡ corners
+  corners-beyond : drop (2 * d₀ .state .corners) (d .corners) ≡ drop (2 * d₀ .state .corners) (d₀ .corners)
   stacked : Stacked (d .undo) stack
   unwinds : unwound (d .corners) stack ≡ d₀ .corners
   boxes-long : length (d .boxes) ≡ length (d₀ .boxes)
@@ -91,6 +87,7 @@ start d f = record {
   edges = refl;
   room = refl;
   corners-are = held-first d;
+  corners-beyond = refl;
   stacked = tt;
   unwinds = refl;
   boxes-long = refl;
@@ -239,6 +236,9 @@ module _ (d₀ : Prepared) (corners : List ℤ) (stack : List Entry) (d : Prepar
     moved-corners : take (2 * d₀ .state .corners) (d′ .corners) ≡ putCorner corners i place
     moved-corners = ap (take (2 * d₀ .state .corners)) (w .corrected .corners) ∙ put-take (d₀ .state .corners) (d .corners) i place (omega (arith, below, count-is)) ∙ ap (λ (l : List ℤ). putCorner l i place) (g .corners-are)
 
+    moved-after : drop (2 * d₀ .state .corners) (d′ .corners) ≡ drop (2 * d₀ .state .corners) (d₀ .corners)
+    moved-after = ap (drop (2 * d₀ .state .corners)) (w .corrected .corners) ∙ put-drop (d₀ .state .corners) (d .corners) i place (omega (arith, below, count-is)) ∙ g .corners-beyond
+
     moved-beyond : (p : ℕ) → nodeCount (d₀ .state .corners) ≤ p → getD (d′ .boxes) p [] ≡ getD (d₀ .boxes) p []
     moved-beyond p h = w .corrected .boxes p (λ above. let u = above .node in let e = ap nodeCount count-is in omega arith) ∙ g .beyond p h
 
@@ -258,6 +258,7 @@ module _ (d₀ : Prepared) (corners : List ℤ) (stack : List Entry) (d : Prepar
           edges = w .corrected .edges ∙ g .edges;
           room = ap length undo-is ∙ length-set (d .undo) (d .state .«undo_depth») row ∙ g .room;
           corners-are = moved-corners;
+          corners-beyond = moved-after;
           stacked = (
             (λ t. getD (undo-is t) (sym depth-is t) []) ∙ getD-set-same (d .undo) (d .state .«undo_depth») row [] room,
             subst (λ (l : List (List ℤ)). Stacked l stack) (sym undo-is) (stacked-set (d .undo) (d .state .«undo_depth») row stack (let k = depth-is in omega arith) (g .stacked)),
@@ -278,6 +279,7 @@ module _ (d₀ : Prepared) (corners : List ℤ) (stack : List Entry) (d : Prepar
           edges = w .corrected .edges ∙ g .edges;
           room = ap length undo-is ∙ g .room;
           corners-are = moved-corners;
+          corners-beyond = moved-after;
           stacked = subst (λ (l : List (List ℤ)). Stacked l stack) (sym undo-is) (g .stacked);
           unwinds = ap (λ (l : List ℤ). unwound l stack) (w .corrected .corners ∙ ap (putCorner (d .corners) i) (unrecorded-same (cornerAt (d .corners) i) place e) ∙ put-same (d .corners) i) ∙ g .unwinds;
           boxes-long = w .corrected .boxes-long ∙ g .boxes-long;
@@ -342,6 +344,10 @@ module _ (d₀ : Prepared) (corners : List ℤ) (top : Entry) (rest : List Entry
         ap (take (2 * d₀ .state .corners)) taken-corners
         ∙ put-take (d₀ .state .corners) (d .corners) (top .corner) (top .place) (omega (arith, top-below, count-is d₀ corners (top ∷ rest) d g))
         ∙ ap (λ (l : List ℤ). putBack l top) (g .corners-are);
+    corners-beyond =
+        ap (drop (2 * d₀ .state .corners)) taken-corners
+        ∙ put-drop (d₀ .state .corners) (d .corners) (top .corner) (top .place) (omega (arith, top-below, count-is d₀ corners (top ∷ rest) d g))
+        ∙ g .corners-beyond;
     stacked = subst (λ (l : List (List ℤ)). Stacked l rest) (sym (w .undo)) (g .stacked .1);
     unwinds = ap (λ (l : List ℤ). unwound l rest) taken-corners ∙ g .unwinds;
     boxes-long = w .corrected .boxes-long ∙ g .boxes-long;
@@ -480,6 +486,21 @@ as-first d₀ f corners stack d g e = record {
     row p (yes h) = smallest-one (d₀ .corners) (d₀ .rings) (d₀ .edges) (d₀ .parts) (d .boxes) (d₀ .boxes) p (smallest p h) (f .sound .index .smallest p h)
     row p (no h) = g .beyond p (omega arith)
 
+-- what is left beside corners and boxes
+left-over : (d₀ : Prepared) (corners : List ℤ) (stack : List Entry) (d : Prepared) → Agrees d₀ corners stack d → Leaves d₀ stack d
+left-over d₀ corners stack d g = record {
+  state = g .state;
+  records = g .stacked;
+  undo-long = g .room;
+  rings = g .rings;
+  polygons = g .polygons;
+  parts = g .parts;
+  edges = g .edges;
+  corners-beyond = g .corners-beyond;
+  boxes-long = g .boxes-long;
+  boxes-beyond = g .beyond;
+}
+
 -- demand 3
 pub demand : (d : Prepared) (turns : List Turn) → Fresh d → Run d turns → Demand d turns
 demand d turns f r =
@@ -488,6 +509,7 @@ demand d turns f r =
       answers = w .answers;
       corners = held-is d _ _ (endOf d turns) (w .agrees);
       sound = w .agrees .sound;
+      leaves = left-over d _ _ (endOf d turns) (w .agrees);
       frames = w .frames;
       undone = λ k e.
           let v = run-follows d (take k turns) (opened (planHeld d)) d (start d f) (run-take d turns k r) in

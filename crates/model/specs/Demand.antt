@@ -2,16 +2,18 @@
 use mathlib.Core.Path.{_≡_}
 use mathlib.Core.Bool.{false}
 use mathlib.Core.List.{List, [], _∷_, map}
-use Prim.Native.Nat.{ℕ, _+_, _-_, _*_}
-use lib.IntN.{pos}
-use lib.ListN.{length, getD, take}
+use Prim.Native.Nat.{ℕ, _+_, _-_, _*_, _≤_}
+use lib.IntN.{ℤ, pos}
+use lib.ListN.{length, getD, take, drop}
 use Rattle.rules.specs.declared.Location.the-variants.{Outside}
 use Rattle.rules.specs.declared.Refusal.{Refusal}
 use Rattle.rules.specs.declared.Refusal.the-variants.{PlanOutOfRange}
+use Rattle.rules.specs.Nodes.{nodeCount}
 use Rattle.model.specs.declared.Answer.{Answer}
 use Rattle.model.specs.declared.Answer.the-variants.{At, Refused}
 use Rattle.model.specs.declared.Call.{Call}
 use Rattle.model.specs.declared.Call.the-variants.{Move, Undo, Locate, LocateDoubled}
+use Rattle.model.specs.Entries.{Entry, undoRow}
 use Rattle.model.specs.Model.{standing, modelAnswers, modelAfter}
 use Rattle.model.specs.Prepared.{Prepared, planHeld, Sound, Above}
 use Rattle.model.specs.Steps.{atDepth, latest, Step}
@@ -94,12 +96,32 @@ pub record AsFirst (d d′ : Prepared) : Type 0 where
 abbrev pub lent : Prepared → ℕ
 lent d = length (d .undo)
 
+-- the records below the depth are the stack's entries, its top last
+unfoldable pub Stacked : List (List ℤ) → List Entry → Type 0
+Stacked undo [] = Unit {0}
+Stacked undo (entry ∷ rest) = (getD undo (length rest) [] ≡ undoRow entry) × Stacked undo rest
+
+-- what is left beside corners and boxes, with this stack: the depth is how many entries it has, they stand in the undo table, and all else
+-- is as it was, entries beyond the plan's too
+pub record Leaves (d : Prepared) (stack : List Entry) (d′ : Prepared) : Type 0 where
+  pub state : d′ .state ≡ atDepth (d .state) (length stack)
+  pub records : Stacked (d′ .undo) stack
+  pub undo-long : length (d′ .undo) ≡ length (d .undo)
+  pub rings : d′ .rings ≡ d .rings
+  pub polygons : d′ .polygons ≡ d .polygons
+  pub parts : d′ .parts ≡ d .parts
+  pub edges : d′ .edges ≡ d .edges
+  pub corners-beyond : drop (2 * d .state .corners) (d′ .corners) ≡ drop (2 * d .state .corners) (d .corners)
+  pub boxes-long : length (d′ .boxes) ≡ length (d .boxes)
+  pub boxes-beyond : (p : ℕ) → nodeCount (d .state .corners) ≤ p → getD (d′ .boxes) p [] ≡ getD (d .boxes) p []
+
 pub record Demand (d : Prepared) (turns : List Turn) : Type 0 where
   -- every answer in the list is the one that the model gives
   pub answers : answersOf turns ≡ modelAnswers (planHeld d) (lent d) (callsOf turns)
   -- at the list's end the corners are the model's, in the plan's rings, and the tables sound, each box the smallest round its edges
   pub corners : planHeld (endOf d turns) ≡ standing (planHeld d) (modelAfter (planHeld d) (lent d) (callsOf turns) .corners)
   pub sound : Sound (endOf d turns)
+  pub leaves : Leaves d (modelAfter (planHeld d) (lent d) (callsOf turns) .stack) (endOf d turns)
   -- each call changed only what it may
   pub frames : Frames d turns
   -- wherever in the list all moves are undone, all is as first prepared

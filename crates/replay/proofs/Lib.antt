@@ -1,0 +1,4 @@
+pub mod LookUps
+pub mod Replaying
+pub mod Starting
+pub mod Ending

@@ -1,0 +1,102 @@
+-- What a replay promises: a plan prepared, and a coded list of calls run on it (demand 3, over code that runs).
+use mathlib.Core.Path.{_≡_}
+use mathlib.Core.Bool.{true, false, cond}
+use mathlib.Core.List.{List, [], _++_, map}
+use Prim.Native.Nat.{ℕ}
+use lib.Dec.{ltb}
+use lib.IntN.{ℤ}
+use lib.ListN.{length, drop}
+use Rattle.rules.specs.declared.State.{State}
+use Rattle.rules.specs.Numbers.{refusalNumber}
+use Rattle.rules.specs.Plans.{Plan, planInRange}
+use Rattle.prepare.specs.declared.Preparing.{Preparing}
+use Rattle.prepare.specs.declared.Preparing as Preparing
+use Rattle.prepare.specs.declared.Preparing.the-variants.{Ready}
+use Rattle.prepare.specs.declared.Room.{Room}
+use Rattle.prepare.specs.Answers.{preparing, stateOf}
+use Rattle.prepare.specs.Tables as Preparing-tables
+use Rattle.prepare.specs.Tables.{Tables, roomOf}
+use Rattle.model.specs.Coded.{callOf}
+use Rattle.model.specs.Numbers.{answerNumber}
+use Rattle.model.specs.Model.{modelAnswers, modelAfter}
+use Rattle.model.specs.Prepared.{Prepared, preparedOf, Sound}
+use Rattle.model.specs.Steps.{atDepth}
+use Rattle.model.specs.Demand.{Turn, callsOf, answersOf, Run, endOf, Leaves, AsFirst, Demand, lent, markedAnswer}
+use Rattle.replay.specs.declared.Outcome.{Outcome}
+use Rattle.replay.specs.declared.Outcome.the-variants.{Ran, Refused, AnswersTooShort}
+
+-- ---- a list of coded calls
+
+-- they were run from d to d′, and their coded answers written over the first places of `was`; on any tables
+pub record Called (calls : List (List ℤ)) (d : Prepared) (was : List ℤ) (d′ : Prepared) (is : List ℤ) : Type 0 where
+  pub turns : List Turn
+  pub run : Run d turns
+  pub calls-are : callsOf turns ≡ map callOf calls
+  pub end : endOf d turns ≡ d′
+  pub answers-are : is ≡ map answerNumber (answersOf turns) ++ drop (length calls) was
+
+-- from a plan just prepared in range: the answers are the model's, so are the corners, the tables are sound and otherwise as they were, and
+-- with nothing left to undo all is as first prepared. `demand` says it call by call
+pub record Replayed (plan : Plan) (calls : List (List ℤ)) (d : Prepared) (was : List ℤ) (d′ : Prepared) (is : List ℤ) : Type 0 where
+  pub called : Called calls d was d′ is
+  pub demand : Demand d (called .turns)
+  pub answers : is ≡ map answerNumber (modelAnswers plan (lent d) (map callOf calls)) ++ drop (length calls) was
+  pub corners : d′ .corners ≡ modelAfter plan (lent d) (map callOf calls) .corners ++ drop (length (plan .coordinates)) (d .corners)
+  pub sound : Sound d′
+  pub leaves : Leaves d (modelAfter plan (lent d) (map callOf calls) .stack) d′
+  pub undone : modelAfter plan (lent d) (map callOf calls) .stack ≡ [] → AsFirst d d′
+
+-- on a marked plan: 12 and outside, and nothing changes
+pub record ReplayedMarked (calls : List (List ℤ)) (d : Prepared) (was : List ℤ) (d′ : Prepared) (is : List ℤ) : Type 0 where
+  pub answers : is ≡ map answerNumber (map markedAnswer (map callOf calls)) ++ drop (length calls) was
+  pub left : d′ ≡ d
+
+-- ---- the call
+
+-- all that is lent
+pub record Lent : Type 0 where
+  pub tables : Tables
+  pub undo : List (List ℤ)
+  pub answers : List ℤ
+
+-- tables, a state and an undo table as calls are given them
+abbrev pub given : State → Tables → List (List ℤ) → Prepared
+given state t undo = preparedOf state (t .corners) (t .rings) (t .polygons) (t .boxes) (t .parts) (t .edges) undo
+
+-- the state at the end: as many moves can be undone as the model's stack has entries; a marked plan's stays
+abbrev pub endState : Plan → ℕ → List (List ℤ) → State
+endState plan lent calls = cond (planInRange plan) (atDepth (stateOf plan) (length (modelAfter plan lent (map callOf calls) .stack))) (stateOf plan)
+
+-- what is answered once the plan is judged
+abbrev pub judged : Preparing → State → Outcome
+judged (Ready state nodes) end = Ran end
+judged (Preparing.the-variants.Refused refusal) end = Refused refusal
+
+-- 11 where the answer table has fewer places than there are calls; else what preparing refuses; else the state at the end
+unfoldable pub replaying : Plan → Room → ℕ → List (List ℤ) → ℕ → Outcome
+replaying plan room lent calls answers = cond (ltb answers (length calls)) AnswersTooShort (judged (preparing plan room) (endState plan lent calls))
+
+-- 0 where the calls were run, or the refusal's number
+abbrev pub replayNumber : Outcome → ℕ
+replayNumber (Ran state) = 0
+replayNumber (Refused refusal) = refusalNumber refusal
+replayNumber AnswersTooShort = 11
+
+-- the plan was prepared, which left these tables, and the calls were run on them
+pub record Ended (plan : Plan) (before after : Lent) (calls : List (List ℤ)) (state : State) : Type 0 where
+  pub first : Tables
+  pub nodes : ℕ
+  pub prepared : Preparing-tables.Prepared plan (before .tables) first (Ready (stateOf plan) nodes)
+  pub near : planInRange plan ≡ true → Replayed plan calls (given (stateOf plan) first (before .undo)) (before .answers) (given state (after .tables) (after .undo)) (after .answers)
+  pub stray : planInRange plan ≡ false → ReplayedMarked calls (given (stateOf plan) first (before .undo)) (before .answers) (given state (after .tables) (after .undo)) (after .answers)
+
+-- a refusal changes nothing lent
+abbrev pub Left : Plan → Lent → Lent → List (List ℤ) → Outcome → Type 0
+Left plan before after calls (Ran state) = Ended plan before after calls state
+Left plan before after calls (Refused refusal) = after ≡ before
+Left plan before after calls AnswersTooShort = after ≡ before
+
+-- answer and tables of `replay`
+pub record Replays (plan : Plan) (before after : Lent) (calls : List (List ℤ)) (r : Outcome) : Type 0 where
+  pub answer : r ≡ replaying plan (roomOf (before .tables)) (length (before .undo)) calls (length (before .answers))
+  pub tables : Left plan before after calls r
