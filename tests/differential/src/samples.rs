@@ -69,34 +69,34 @@ const FAMILIES: [&str; 12] = [
 ];
 
 /// An input of `findspot` and the output that is due.
-pub struct Tray {
+pub struct Sample {
     pub name: String,
     pub input: String,
     pub output: String,
 }
 
-/// All trays: those that are answered whole, then those that are refused.
-pub fn trays() -> Vec<Tray> {
-    let mut trays = vec![worked_example(), bare_header(), no_rings(), no_points()];
-    trays.extend(named());
-    trays.extend(RAYS.map(one_ray));
-    trays.extend([Kind::List, Kind::Tree].map(every_reply));
-    trays.extend([beyond_range(), ends_of_64_bits()]);
-    trays.extend([most_corners(), most_rings(), most_bytes()]);
-    trays.extend(generated());
-    trays.extend(refused::trays());
-    trays
+/// All samples: those that are answered whole, then those that are refused.
+pub fn samples() -> Vec<Sample> {
+    let mut samples = vec![worked_example(), bare_header(), no_rings(), no_points()];
+    samples.extend(named());
+    samples.extend(RAYS.map(one_ray));
+    samples.extend([Kind::List, Kind::Tree].map(every_reply));
+    samples.extend([beyond_range(), ends_of_64_bits()]);
+    samples.extend([most_corners(), most_rings(), most_bytes()]);
+    samples.extend(generated());
+    samples.extend(refused::samples());
+    samples
 }
 
-/// The trays as files of the program `trays`: their names and contents, and the names in the order of its arguments.
+/// The samples as files of the program `samples`: their names and contents, and the names in the order of its arguments.
 pub fn files() -> (Vec<(String, String)>, String) {
     let mut files = Vec::new();
     let mut arguments = String::new();
-    for Tray {
+    for Sample {
         name,
         input,
         output,
-    } in trays()
+    } in samples()
     {
         for (ending, content) in [("input", input), ("output", output)] {
             let file = format!("{name}.{ending}");
@@ -138,17 +138,17 @@ fn header(plan: &Plan) -> &'static str {
     writer::headers(plan.kind)[writer::headers(plan.kind).len() - 1]
 }
 
-/// A tray that is answered whole.
-fn answered(name: &str, plan: &Plan, queries: &[Query]) -> Tray {
+/// A sample that is answered whole.
+fn answered(name: &str, plan: &Plan, queries: &[Query]) -> Sample {
     answered_under(header(plan), name, plan, queries)
 }
 
-fn answered_under(header: &str, name: &str, plan: &Plan, queries: &[Query]) -> Tray {
+fn answered_under(header: &str, name: &str, plan: &Plan, queries: &[Query]) -> Sample {
     let input = input(plan, header, queries);
     assert!(input.len() <= MOST_BYTES, "{name}");
     assert!(plan.corners().len() <= MOST_CORNERS, "{name}");
     assert!(plan.ring_lengths.len() <= MOST_RINGS, "{name}");
-    Tray {
+    Sample {
         name: name.to_string(),
         input,
         output: replies(plan, queries),
@@ -161,41 +161,41 @@ fn holed_square() -> Plan {
 }
 
 /// The input that document 01 shows.
-fn worked_example() -> Tray {
+fn worked_example() -> Sample {
     let queries = [Query::grid(5, 5), Query::grid(4, 5), Query::grid(1, 5)];
     answered("worked_example", &holed_square(), &queries)
 }
 
 /// A bare header is a list: inside either of two squares that share a side is inside, and so is that side.
-fn bare_header() -> Tray {
+fn bare_header() -> Sample {
     let right = SQUARE.map(|(x, y)| (x + 5, y));
     let plan = Plan::list(&[vec![SQUARE.to_vec()], vec![right.to_vec()]]);
     let queries = [Query::grid(10, 5), Query::grid(2, 5), Query::grid(15, 5)];
     answered_under("plan", "bare_header", &plan, &queries)
 }
 
-fn no_rings() -> Tray {
+fn no_rings() -> Sample {
     let queries = [Query::grid(0, 0), Query::doubled(1, 1)];
     answered("no_rings", &Plan::list(&[]), &queries)
 }
 
 /// A good plan and nothing asked: nothing is written.
-fn no_points() -> Tray {
+fn no_points() -> Sample {
     answered("no_points", &holed_square(), &[])
 }
 
-fn named() -> Vec<Tray> {
+fn named() -> Vec<Sample> {
     let cases = named_cases();
     assert_eq!(cases.len(), NAMED.len());
-    let tray = |(shown, case): (&str, plans::named::NamedCase)| {
+    let sample = |(shown, case): (&str, plans::named::NamedCase)| {
         let queries: Vec<Query> = case.stated.iter().map(|&(query, _)| query).collect();
         answered(&format!("named_{shown}"), &case.plan, &queries)
     };
-    NAMED.into_iter().zip(cases).map(tray).collect()
+    NAMED.into_iter().zip(cases).map(sample).collect()
 }
 
 /// The square at the side of a plan's extent to which the ray runs, with points whose ray is this one, on both grids.
-fn one_ray(ray: Ray) -> Tray {
+fn one_ray(ray: Ray) -> Sample {
     let far = [(-100, -100), (-100, 110)].map(|(x, y)| vec![(x, y), (x + 1, y), (x, y - 1)]);
     let [below, above] = far;
     let polygons = [SQUARE.to_vec(), below, above].map(|ring| vec![turned(ray, 10, &ring)]);
@@ -251,7 +251,7 @@ fn turned(ray: Ray, side: i64, points: &[Point]) -> Ring {
 }
 
 /// Both grids and each reply, of two squares that overlap: the half-grid goes by parity alone.
-fn every_reply(kind: Kind) -> Tray {
+fn every_reply(kind: Kind) -> Sample {
     let right = SQUARE.map(|(x, y)| (x + 5, y));
     let rings = [SQUARE.to_vec(), right.to_vec()];
     let plan = match kind {
@@ -288,7 +288,7 @@ fn every_reply(kind: Kind) -> Tray {
 }
 
 /// Points at the ends of the range and beyond them, on both grids, in a plan that fills it.
-fn beyond_range() -> Tray {
+fn beyond_range() -> Sample {
     let end = GRID_LIMIT;
     let outline = vec![(-end, -end), (end, -end), (end, end), (-end, end)];
     let plan = Plan::list(&[vec![outline]]);
@@ -310,7 +310,7 @@ fn beyond_range() -> Tray {
 }
 
 /// Numbers at the ends of 64 bits are numbers: corners there put every point outside.
-fn ends_of_64_bits() -> Tray {
+fn ends_of_64_bits() -> Sample {
     let (least, most) = (i64::MIN, i64::MAX);
     let plan = Plan::tree(&[vec![
         (least, least),
@@ -327,7 +327,7 @@ fn ends_of_64_bits() -> Tray {
 }
 
 /// Teeth of 512 corners, the most that a plan may have.
-fn most_corners() -> Tray {
+fn most_corners() -> Sample {
     let tooth = |x: i64| (x, if x % 2 == 0 { 4 } else { 9 + x % 7 });
     let mut ring: Ring = (0..510).map(tooth).collect();
     ring.extend([(509, 0), (0, 0)]);
@@ -350,7 +350,7 @@ fn most_corners() -> Tray {
 }
 
 /// 256 rings, the most that a plan may have: a hundred squares inside each other, more than a look-up counts in one walk, and empty rings.
-fn most_rings() -> Tray {
+fn most_rings() -> Sample {
     let square = |k: i64| vec![(k, k), (300 - k, k), (300 - k, 300 - k), (k, 300 - k)];
     let mut rings: Vec<Ring> = (0..100).map(square).collect();
     rings.resize(MOST_RINGS, Vec::new());
@@ -371,11 +371,11 @@ fn most_rings() -> Tray {
 }
 
 /// An input of exactly 16,384 bytes.
-fn most_bytes() -> Tray {
+fn most_bytes() -> Sample {
     let plan = holed_square();
-    let tray = answered("most_bytes", &plan, &many_points(&plan, MOST_BYTES));
-    assert_eq!(tray.input.len(), MOST_BYTES);
-    tray
+    let sample = answered("most_bytes", &plan, &many_points(&plan, MOST_BYTES));
+    assert_eq!(sample.input.len(), MOST_BYTES);
+    sample
 }
 
 /// Points that make the input so long: lines of 9 bytes, and of 10 for what is left over.
@@ -391,10 +391,10 @@ fn many_points(plan: &Plan, bytes: usize) -> Vec<Query> {
 }
 
 /// A plan of each family.
-fn generated() -> Vec<Tray> {
-    let tray = |(number, family): (usize, &str)| {
+fn generated() -> Vec<Sample> {
+    let sample = |(number, family): (usize, &str)| {
         let Case { plan, queries } = generate::case(SEED, number, SIZE, QUERIES);
         answered(&format!("generated_{family}"), &plan, &queries)
     };
-    FAMILIES.into_iter().enumerate().map(tray).collect()
+    FAMILIES.into_iter().enumerate().map(sample).collect()
 }

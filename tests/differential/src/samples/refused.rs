@@ -1,6 +1,6 @@
-//! Trays that are refused, with the number and the line that document 01 gives.
+//! Samples that are refused, with the number and the line that document 01 gives.
 
-use super::{MOST_BYTES, Tray, header, holed_square, input, many_points, replies};
+use super::{MOST_BYTES, Sample, header, holed_square, input, many_points, replies};
 use plans::plan::Query;
 
 /// Inputs whose plan is refused with 2: what they show, the text and the line.
@@ -52,19 +52,19 @@ const BAD_POINTS: [(&str, &str, usize); 9] = [
     ("rest_after_bad_point", "coin\nouter\ncoin\t1\t5\n", 14),
 ];
 
-/// One tray at least for each refusal.
-pub fn trays() -> Vec<Tray> {
-    let mut trays: Vec<Tray> = BAD_PLANS.into_iter().map(bad_plan).collect();
-    trays.extend(BAD_POINTS.into_iter().map(bad_point));
-    trays.push(point_ends_plan());
-    trays.extend(too_large());
-    trays.extend(too_long());
-    trays
+/// One sample at least for each refusal.
+pub fn samples() -> Vec<Sample> {
+    let mut samples: Vec<Sample> = BAD_PLANS.into_iter().map(bad_plan).collect();
+    samples.extend(BAD_POINTS.into_iter().map(bad_point));
+    samples.push(point_ends_plan());
+    samples.extend(too_large());
+    samples.extend(too_long());
+    samples
 }
 
 /// An input and its refusal, with nothing before it.
-fn refused(shown: &str, input: String, number: usize, line: usize) -> Tray {
-    Tray {
+fn refused(shown: &str, input: String, number: usize, line: usize) -> Sample {
+    Sample {
         name: format!("refused_{shown}"),
         input,
         output: refusal(number, line),
@@ -75,23 +75,23 @@ fn refusal(number: usize, line: usize) -> String {
     format!("refused\t{number}\t{line}\n")
 }
 
-fn bad_plan((shown, text, line): (&str, &str, usize)) -> Tray {
+fn bad_plan((shown, text, line): (&str, &str, usize)) -> Sample {
     refused(shown, text.to_string(), 2, line)
 }
 
 /// Replies to two points, then the refusal, and nothing after it.
-fn bad_point((shown, rest, line): (&str, &str, usize)) -> Tray {
+fn bad_point((shown, rest, line): (&str, &str, usize)) -> Sample {
     let plan = holed_square();
     let queries = [Query::grid(1, 5), Query::doubled(9, 9)];
     let text = input(&plan, header(&plan), &queries) + rest;
-    Tray {
+    Sample {
         output: replies(&plan, &queries) + &refusal(2, line),
         ..refused(shown, text, 2, line)
     }
 }
 
 /// A point's word alone ends the plan, and is refused after it.
-fn point_ends_plan() -> Tray {
+fn point_ends_plan() -> Sample {
     refused(
         "point_ends_plan",
         "plan\nouter\ncoin\nat\t0\t0\n".to_string(),
@@ -101,7 +101,7 @@ fn point_ends_plan() -> Tray {
 }
 
 /// More than 512 corners or 256 rings, after the plan's lines and before its points.
-fn too_large() -> Vec<Tray> {
+fn too_large() -> Vec<Sample> {
     let rings = |header: &str, word: &str, count: usize| {
         format!("{header}\n{}", format!("{word}\n").repeat(count))
     };
@@ -128,7 +128,7 @@ fn too_large() -> Vec<Tray> {
 }
 
 /// More than 16,384 bytes, before all else.
-fn too_long() -> Vec<Tray> {
+fn too_long() -> Vec<Sample> {
     let plan = holed_square();
     let long = input(&plan, header(&plan), &many_points(&plan, MOST_BYTES + 1));
     assert_eq!(long.len(), MOST_BYTES + 1);

@@ -59,6 +59,6 @@ fn main() {
     // The first argument is the program's own name.
     let pairs = os::arg_count() / 2;
     let agree = agreeing(pairs);
-    write_count(b"trays ", pairs);
+    write_count(b"samples ", pairs);
     write_count(b"agree ", agree);
 }

@@ -1,4 +1,4 @@
--- `trays::agrees` meets its contract.
+-- `samples::agrees` meets its contract.
 use Prim.Native.Nat.{_≤_}
 use native.Mathlib.Omega.{arith}
 use lib.ListN.{length}
@@ -6,8 +6,8 @@ use Rattle.io.specs.Counts.{Counts}
 use Rattle.io.proofs.Counting.{counts}
 use Rattle.answers.proofs.Outcomes.{written-within}
 use borrow.Author.Needs.{needs}
-use Rattle.trays.proofs.agrees.Statement.{statement}
-use Rattle.trays.proofs.agrees.Tie as tie
+use Rattle.samples.proofs.agrees.Statement.{statement}
+use Rattle.samples.proofs.agrees.Tie as tie
 
 -- the bytes that were read lie in the buffer
 held : (c : tie.After-length) → Counts (c .length .given .0 .0) (c .before .before .before .read-file .last .1 .0)

@@ -1,10 +1,10 @@
--- `trays::agreeing` meets its contract. No more pairs agree than there are.
+-- `samples::agreeing` meets its contract. No more pairs agree than there are.
 use Prim.Native.Nat.{_-_, _≤_}
 use mathlib.Core.Logic.{⊎-elim}
 use native.Mathlib.Omega.{arith}
 use borrow.Author.Needs.{needs}
-use Rattle.trays.proofs.agreeing.Statement.{statement}
-use Rattle.trays.proofs.agreeing.Tie as tie
+use Rattle.samples.proofs.agreeing.Statement.{statement}
+use Rattle.samples.proofs.agreeing.Tie as tie
 
 abbrev Inv-loop : tie.InvT-loop
 Inv-loop pairs agree₀ pair₀ t5 agree pair = (agree ≤ pair) × (pair ≤ pairs)

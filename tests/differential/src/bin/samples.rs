@@ -1,14 +1,14 @@
-//! Writes the trays that the program `trays` replays: `trays CRATE_FOLDER`, its data/ and args.
+//! Writes the samples that the program `samples` replays: `samples CRATE_FOLDER`, its data/ and args.
 
-use differential::trays;
+use differential::samples;
 use std::error::Error;
 use std::path::Path;
 use std::{env, fs};
 
 fn main() -> Result<(), Box<dyn Error>> {
-    let folder = env::args().nth(1).ok_or("usage: trays CRATE_FOLDER")?;
+    let folder = env::args().nth(1).ok_or("usage: samples CRATE_FOLDER")?;
     let data = Path::new(&folder).join("data");
-    let (files, arguments) = trays::files();
+    let (files, arguments) = samples::files();
     if data.exists() {
         fs::remove_dir_all(&data)?;
     }
@@ -17,6 +17,6 @@ fn main() -> Result<(), Box<dyn Error>> {
         fs::write(data.join(name), content)?;
     }
     fs::write(Path::new(&folder).join("args"), arguments)?;
-    println!("trays: {}", files.len() / 2);
+    println!("samples: {}", files.len() / 2);
     Ok(())
 }

@@ -2,8 +2,8 @@
 use mathlib.Core.List.{List}
 use Prim.Native.Nat.{ℕ}
 use Rattle.io.specs.Counts.{Counts}
-use Rattle.trays.specs.declared.files.File.{File}
-use Rattle.trays.specs.declared.files.File.the-variants.{Read, Missing}
+use Rattle.samples.specs.declared.files.File.{File}
+use Rattle.samples.specs.declared.files.File.the-variants.{Read, Missing}
 
 -- the bytes that were read lie in the buffer
 abbrev pub Holds : List ℕ → File → Type 0

@@ -1,5 +1,5 @@
 // Files that arguments name.
-ghost use Rattle.trays.specs.Files.{Holds};
+ghost use Rattle.samples.specs.Files.{Holds};
 use fields::same;
 
 /// What reading a file comes to.

@@ -1,8 +1,8 @@
--- `trays::files::holds` meets its contract.
+-- `samples::files::holds` meets its contract.
 use Rattle.io.specs.Counts.{Counts}
 use borrow.Author.Needs.{needs}
-use Rattle.trays.proofs.files.holds.Statement.{statement}
-use Rattle.trays.proofs.files.holds.Tie as tie
+use Rattle.samples.proofs.files.holds.Statement.{statement}
+use Rattle.samples.proofs.files.holds.Tie as tie
 
 -- the bytes that were read lie in the buffer
 held : (c : tie.After-length) → Counts (c .length .given .0 .0) (c .before .before .before .read-file .last .1 .0)
