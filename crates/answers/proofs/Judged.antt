@@ -22,7 +22,7 @@ use Rattle.text.proofs.Held.{lists-fit}
 use Rattle.text.proofs.Largest.{accepted}
 use Rattle.answers.specs.declared.parts.Place.{Place}
 use Rattle.answers.specs.Replies.{refusalLine, lineNamed, replies, Due}
-use Rattle.answers.specs.Answers.{planText, afterPlan, FirstQuery, tooLarge, judged}
+use Rattle.answers.specs.Answers.{planText, afterPlan, FirstQuery, tooLarge, Admitted, judged}
 use Rattle.answers.proofs.Bounds.{few}
 
 -- ---- a refusal
@@ -89,13 +89,15 @@ module _ (input : List ℕ) (small : length input ≤ 16384) (place : Place) (g 
         ∙ ap (λ b. cond b (refusalLine 11 0) (afterPlan (p .plan) 1 (split 10 input))) within-ceilings
         ∙ g .rest-due (p .plan)
 
+    pub plan-admitted : (plan : Plan) → plan ≡ p .plan → Admitted plan
+    plan-admitted plan e = subst Admitted (sym e) (record { accepted = accepted (take (place .from) input) (p .plan) (p .small) (p .is); few = within-ceilings })
+
     pub plan-due : (plan : Plan) (output : List ℕ) → plan ≡ p .plan → 65536 ≤ length output → Due plan input (place .from) (place .line) output
     plan-due plan output e h =
         let l = ap length replies-due in
         let f = few input small in
         subst (λ q. Due q input (place .from) (place .line) output) (sym e)
         (record {
-          accepted = accepted (take (place .from) input) (p .plan) (p .small) (p .is);
           small = small;
           starts = g .within;
           numbered = g .numbered;

@@ -1,9 +1,10 @@
 mod FieldsAsked
 mod Lines
+mod LookUps
 mod Replying
 mod Searching
 mod Bounds
 mod Judged
-mod Outcomes
+pub mod Outcomes
 mod Worked
 mod Caught

@@ -7,14 +7,6 @@ use lib.ListN.{length, length-append}
 use Rattle.fields.specs.Decimals.{digits}
 use Rattle.fields.specs.Written.{Wrote}
 use Rattle.fields.proofs.Written.{wrote-on}
-use Rattle.rules.specs.declared.Location.{Location}
-use Rattle.rules.specs.declared.Reply.{Reply}
-use Rattle.rules.specs.declared.Reply.the-variants.{At, Refused}
-use Rattle.rules.specs.declared.Refusal.{Refusal}
-use Rattle.rules.specs.declared.Verdict.{Verdict}
-use Rattle.rules.specs.declared.Verdict.the-variants.{Accepted}
-use Rattle.rules.specs.declared.Verdict.the-variants as Verdict
-use Rattle.rules.specs.Plans.{answer}
 use Rattle.answers.specs.Replies.{replyLine, refusalLine, numberField}
 use Rattle.answers.specs.Words.{refused, tab, lineEnd}
 
@@ -36,16 +28,6 @@ wrote-four at a b c d o₀ o₁ o₂ o₃ o₄ n₁ n₂ n₃ n₄ room f g h k 
     wrote-on at (a ++ b ++ c) o₀ (omega arith) d o₃ o₄ n₃ n₄
     (wrote-on at (a ++ b) o₀ (omega arith) c o₂ o₃ n₂ n₃ (wrote-on at a o₀ (omega arith) b o₁ o₂ n₁ n₂ f g) h)
     k
-
--- ---- an accepted plan gets its reply
-
-pub accepted-reply : (v : Verdict) (l x : Location) (r : Reply) → v ≡ Accepted → r ≡ answer v l → r ≡ At x → x ≡ l
-accepted-reply Accepted l x r a e f = cc
-accepted-reply (Verdict.Refused refusal) l x r a e f = let one : _≡_ {A = ℕ} 0 1 = cc in absurd (omega arith)
-
-pub never-refused : {A : Type 0} (v : Verdict) (l : Location) (refusal : Refusal) (r : Reply) → v ≡ Accepted → r ≡ answer v l → r ≡ Refused refusal → A
-never-refused Accepted l refusal r a e f = let one : _≡_ {A = ℕ} 0 1 = cc in absurd (omega arith)
-never-refused (Verdict.Refused other) l refusal r a e f = let one : _≡_ {A = ℕ} 0 1 = cc in absurd (omega arith)
 
 -- the same bytes by another name
 pub wrote-same : (bytes bytes′ output output′ : List ℕ) (r : ℕ) → bytes ≡ bytes′ → Wrote 0 bytes output output′ r → Wrote 0 bytes′ output output′ r

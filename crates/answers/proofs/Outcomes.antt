@@ -1,11 +1,12 @@
 -- What the call returns and leaves in the output. Assumes nothing.
 use mathlib.Core.Path.{_≡_, refl, sym, ap, _∙_}
-use mathlib.Core.Bool.{cond}
+use mathlib.Core.Bool.{Bool, true, false, cond}
 use mathlib.Core.List.{List}
 use Prim.Native.Nat.{ℕ, _≤_, _<_}
 use native.Mathlib.Omega.{arith}
 use lib.ListN.{length}
-use borrow.Author.Tests.{lt-ltb, le-ltb}
+use lib.Dec.{ltb}
+use borrow.Author.Tests.{lt-ltb, le-ltb, ltb-false}
 use Rattle.fields.specs.Pieces.{split}
 use Rattle.fields.specs.Written.{overwritten, Wrote}
 use Rattle.text.specs.Plans.{meaning}
@@ -38,3 +39,11 @@ answer-written input output output′ bytes n h e w =
       written = w .whole ∙ ap (λ xs. overwritten 0 xs output) (sym e);
       few = answered-few input;
     }
+
+-- what was written lies in the output
+pub written-within : (input output output′ : List ℕ) (n : ℕ) → Answered input output output′ (Written n) → n ≤ length output
+written-within input output output′ n g = go (ltb (length output) 65536) refl (g .answer)
+  where
+    go : (b : Bool) → ltb (length output) 65536 ≡ b → Written n ≡ cond b OutputTooShort (Written (length (answered input))) → n ≤ length output
+    go true e h = let one : _≡_ {A = ℕ} 0 1 = cc in absurd (omega arith)
+    go false e h = let same : n ≡ length (answered input) = cc in let long = ltb-false (length output) 65536 e in let few = g .few in omega arith

@@ -1,6 +1,6 @@
 -- The whole output for a whole input (document 01, "Trays to try"; `findspot`: 16,384 bytes of input, 512 corners, 256 rings).
 use mathlib.Core.Path.{_≡_}
-use mathlib.Core.Bool.{Bool, cond, _||_}
+use mathlib.Core.Bool.{Bool, false, cond, _||_}
 use mathlib.Core.List.{List, [], _∷_, _++_}
 use Prim.Native.Nat.{ℕ, suc, _+_, _≤_}
 use lib.Dec.{ltb}
@@ -8,7 +8,8 @@ use lib.IntN.{ℤ}
 use lib.ListN.{length, take, drop}
 use Rattle.fields.specs.Pieces.{split}
 use Rattle.fields.specs.Written.{overwritten}
-use Rattle.rules.specs.Plans.{Plan, cornerCount}
+use Rattle.rules.specs.declared.Verdict.the-variants.{Accepted}
+use Rattle.rules.specs.Plans.{Plan, cornerCount, planVerdict}
 use Rattle.text.specs.Plans.{Meaning, Start, Gives, Broken, meaning}
 use Rattle.answers.specs.declared.Outcome.{Outcome}
 use Rattle.answers.specs.declared.Outcome.the-variants.{Written, OutputTooShort}
@@ -42,6 +43,11 @@ pub record FirstQuery (input : List ℕ) (r : Place) : Type 0 where
 -- more corners or rings than `findspot` takes; polygons share the rings' ceiling
 abbrev pub tooLarge : Plan → Bool
 tooLarge plan = ltb 512 (cornerCount plan) || (ltb 256 (length (plan .lengths)) || ltb 256 (length (plan .counts)))
+
+-- a plan that is replied from: neither 4 nor 3 refuses it, and it is within the ceilings
+pub record Admitted (plan : Plan) : Type 0 where
+  pub accepted : planVerdict plan ≡ Accepted
+  pub few : tooLarge plan ≡ false
 
 -- 2 with the first line that breaks item 10, then 11, then the replies; no text comes to `Start`
 abbrev pub judged : Meaning → List (List ℕ) → List ℕ

@@ -1,5 +1,6 @@
 -- What is written for the lines after the plan (document 01, "Trays to try").
 use mathlib.Core.Path.{_≡_}
+use mathlib.Core.Bool.{true, false}
 use mathlib.Core.List.{List, [], _∷_, _++_}
 use Prim.Native.Nat.{ℕ, suc, _+_, _≤_}
 use lib.IntN.{ℤ}
@@ -11,8 +12,10 @@ use Rattle.rules.specs.declared.Location.{Location}
 use Rattle.rules.specs.declared.Location.the-variants.{Outside, Inside, OnBoundary}
 use Rattle.rules.specs.declared.Refusal.{Refusal}
 use Rattle.rules.specs.declared.Refusal.the-variants.{TextTooLong, BadLine, Uneven, TooMany, NoSuchCorner, PlaceOutOfRange, TableTooShort, PlanOutOfRange, UndoFull, NothingToUndo, Unsound}
-use Rattle.rules.specs.declared.Verdict.the-variants.{Accepted}
-use Rattle.rules.specs.Plans.{Plan, planVerdict, planReply, planHalfReply}
+use Rattle.rules.specs.declared.State.{State}
+use Rattle.rules.specs.Plans.{Plan, planInRange, planReply, planHalfReply}
+use Rattle.rules.specs.Tables.{planOf}
+use Rattle.gather.specs.Regions.{LookSound}
 use Rattle.answers.specs.declared.queries.Query.{Query}
 use Rattle.answers.specs.declared.queries.Query.the-variants.{OnGrid, Doubled}
 use Rattle.answers.specs.declared.queries.Line.{Line}
@@ -76,15 +79,19 @@ replies plan k [] = []
 replies plan k (last ∷ []) = answerEnd k last
 replies plan k (line ∷ next ∷ lines) = answerLine plan k line (queryOf (split 9 line)) (replies plan (suc k) (next ∷ lines))
 
--- ---- what the function that writes them is given
+-- ---- what the functions that write them are given
 
 -- a plan as it is handed in
 abbrev pub handed : Kind → List ℤ → List ℕ → List ℕ → Plan
 handed kind coordinates lengths counts = record { kind = kind; coordinates = coordinates; lengths = lengths; counts = counts }
 
--- an accepted plan, a line of a small input with its number, and room for the replies from there on
+-- the tables of a prepared plan: item 6's mark stands only where a corner is out of range, and without it the tables are sound (item 9)
+pub record PreparedTables (state : State) (corners : List ℤ) (rings polygons : List ℕ) (boxes : List (List ℤ)) (parts : List (List ℕ)) (edges : List ℕ) : Type 0 where
+  pub marked : state .«out_of_range» ≡ true → planInRange (planOf state corners rings polygons) ≡ false
+  pub sound : state .«out_of_range» ≡ false → LookSound state corners rings polygons boxes parts edges
+
+-- a line of a small input with its number, and room for the replies from there on
 pub record Due (plan : Plan) (input : List ℕ) (from line : ℕ) (output : List ℕ) : Type 0 where
-  pub accepted : planVerdict plan ≡ Accepted
   pub small : length input ≤ 16384
   pub starts : from ≤ length input
   pub numbered : line ≤ from + 1

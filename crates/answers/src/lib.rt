@@ -1,19 +1,23 @@
 // The whole of the program `findspot` but reading and writing: input bytes to output bytes (document 01, "Trays to try").
 ghost use Prim.Native.Nat.{_≤_};
-ghost use lib.ListN.{length};
+ghost use lib.ListN.{length, drop};
 ghost use Rattle.fields.specs.Pieces.{split};
 ghost use Rattle.fields.specs.Written.{Wrote};
 ghost use Rattle.text.specs.Plans.{meaning};
-ghost use Rattle.answers.specs.Answers.{planText, judged, Tables, Answered};
+ghost use Rattle.answers.specs.Replies.{replies, handed, Due};
+ghost use Rattle.answers.specs.Answers.{planText, judged, Admitted, Tables, Answered};
 
 mod parts;
 mod queries;
 mod replies;
 
 use parts::first_query;
+use prepare::Preparing;
+use prepare::prepare;
 use replies::line_named;
 use replies::put_refusal;
 use replies::put_replies;
+use rules::Kind;
 use rules::refusal_number;
 use text::Reading;
 use text::read_plan;
@@ -30,6 +34,57 @@ pub enum Outcome {
     Written(usize),
     /// 11: the output has fewer than 65,536 bytes. Nothing was written.
     OutputTooShort,
+}
+
+// What is written for the lines of an input from a line on, whose number is given. The plan, which is within the ceilings, is prepared once
+// (512 corners have at most N(512) = 127 nodes); then each line is looked up in its tables.
+fn answer_lines(
+    kind: Kind,
+    coordinates: &[i64],
+    lengths: &[usize],
+    counts: &[usize],
+    input: &[u8],
+    first: usize,
+    number: usize,
+    output: &mut [u8],
+) -> usize
+    requires { ⌜ Admitted (handed kind (now coordinates) (now lengths) (now counts)) × Due (handed kind (now coordinates) (now lengths) (now counts)) (now input) first number (now output) ⌝ }
+    ensures { λ r. ⌜ Wrote 0 (replies (handed kind (now (coordinates .entry)) (now (lengths .entry)) (now (counts .entry))) number (split 10 (drop first (now (input .entry))))) (now (output .entry)) (now (output .exit)) r ⌝ }
+{
+    let mut corners = [0i64; 1024];
+    let mut rings = [0usize; 256];
+    let mut polygons = [0usize; 256];
+    let mut boxes = [[0i64; 4]; 127];
+    let mut parts = [[0usize; 3]; 127];
+    let mut edges = [0usize; 512];
+    match prepare(
+        kind,
+        coordinates,
+        lengths,
+        counts,
+        &mut corners,
+        &mut rings,
+        &mut polygons,
+        &mut boxes,
+        &mut parts,
+        &mut edges,
+    ) {
+        Preparing::Ready(state, _) => put_replies(
+            state,
+            &corners,
+            &rings,
+            &polygons,
+            &boxes,
+            &parts,
+            &edges,
+            input,
+            first,
+            number,
+            output,
+        ),
+        // No accepted plan within the ceilings comes to this.
+        Preparing::Refused(_) => 0,
+    }
 }
 
 // The answer to an input of at most 16,384 bytes, by tables of 512 corners, 256 rings and 256 polygons.
@@ -52,7 +107,7 @@ fn answer_in(
             let n = 2 * size.corners;
             let r = size.rings;
             let q = size.polygons;
-            put_replies(
+            answer_lines(
                 kind,
                 &corners[..n],
                 &lengths[..r],

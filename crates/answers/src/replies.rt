@@ -4,9 +4,9 @@ ghost use Prim.Native.Nat.{_+_, _≤_};
 ghost use lib.ListN.{length, drop};
 ghost use Rattle.fields.specs.Pieces.{split};
 ghost use Rattle.fields.specs.Written.{Wrote};
-ghost use Rattle.rules.specs.declared.Verdict.the-variants.{Accepted};
-ghost use Rattle.rules.specs.Plans.{planVerdict, planReply, planHalfReply};
-ghost use Rattle.answers.specs.Replies.{placeWord, replyWord, replyLine, numberField, refusalLine, lineNamed, replies, handed, Due};
+ghost use Rattle.rules.specs.Plans.{planReply, planHalfReply};
+ghost use Rattle.rules.specs.Tables.{planOf};
+ghost use Rattle.answers.specs.Replies.{placeWord, replyWord, replyLine, numberField, refusalLine, lineNamed, replies, PreparedTables, Due};
 use crate::queries::Line;
 use crate::queries::Query;
 use crate::queries::read_query;
@@ -14,39 +14,51 @@ use fields::find;
 use fields::write::put;
 use fields::write::put_digits;
 use geom::Point;
-use query::locate;
-use query::locate_doubled;
-use rules::Kind;
+use prepared::locate::locate;
+use prepared::locate::locate_doubled;
 use rules::Location;
 use rules::Refusal;
 use rules::Reply;
+use rules::State;
 
-// Where a point of the grid lies in a plan that was accepted.
-fn reply_at(kind: Kind, corners: &[i64], lengths: &[usize], counts: &[usize], p: Point) -> Location
-    requires { ⌜ planVerdict (handed kind (now corners) (now lengths) (now counts)) ≡ Accepted ⌝ }
-    ensures { λ r. ⌜ r ≡ planReply (handed kind (now (corners .entry)) (now (lengths .entry)) (now (counts .entry))) p ⌝ }
+// Where a point of the grid lies in a prepared plan.
+fn reply_at(
+    state: State,
+    corners: &[i64],
+    rings: &[usize],
+    polygons: &[usize],
+    boxes: &[[i64; 4]],
+    parts: &[[usize; 3]],
+    edges: &[usize],
+    p: Point,
+) -> Location
+    requires { ⌜ PreparedTables state (now corners) (now rings) (now polygons) (now boxes) (now parts) (now edges) ⌝ }
+    ensures { λ r. ⌜ r ≡ planReply (planOf state (now (corners .entry)) (now (rings .entry)) (now (polygons .entry))) p ⌝ }
 {
-    match locate(kind, corners, lengths, counts, p) {
+    match locate(state, corners, rings, polygons, boxes, parts, edges, p) {
         Reply::At(location) => location,
-        // No accepted plan comes to this.
+        // No prepared plan's tables come to this.
         Reply::Refused(_) => Location::Outside,
     }
 }
 
-// Where a point of the half-grid, named by its double, lies in a plan that was accepted.
+// Where a point of the half-grid, named by its double, lies in a prepared plan.
 fn half_reply_at(
-    kind: Kind,
+    state: State,
     corners: &[i64],
-    lengths: &[usize],
-    counts: &[usize],
+    rings: &[usize],
+    polygons: &[usize],
+    boxes: &[[i64; 4]],
+    parts: &[[usize; 3]],
+    edges: &[usize],
     p: Point,
 ) -> Location
-    requires { ⌜ planVerdict (handed kind (now corners) (now lengths) (now counts)) ≡ Accepted ⌝ }
-    ensures { λ r. ⌜ r ≡ planHalfReply (handed kind (now (corners .entry)) (now (lengths .entry)) (now (counts .entry))) p ⌝ }
+    requires { ⌜ PreparedTables state (now corners) (now rings) (now polygons) (now boxes) (now parts) (now edges) ⌝ }
+    ensures { λ r. ⌜ r ≡ planHalfReply (planOf state (now (corners .entry)) (now (rings .entry)) (now (polygons .entry))) p ⌝ }
 {
-    match locate_doubled(kind, corners, lengths, counts, p) {
+    match locate_doubled(state, corners, rings, polygons, boxes, parts, edges, p) {
         Reply::At(location) => location,
-        // No accepted plan comes to this.
+        // No prepared plan's tables come to this.
         Reply::Refused(_) => Location::Outside,
     }
 }
@@ -65,42 +77,65 @@ fn put_place(output: &mut [u8], at: usize, location: Location) -> usize
 
 // The word that a query gets.
 fn put_word(
-    kind: Kind,
+    state: State,
     corners: &[i64],
-    lengths: &[usize],
-    counts: &[usize],
+    rings: &[usize],
+    polygons: &[usize],
+    boxes: &[[i64; 4]],
+    parts: &[[usize; 3]],
+    edges: &[usize],
     query: Query,
     output: &mut [u8],
     at: usize,
 ) -> usize
-    requires { ⌜ (planVerdict (handed kind (now corners) (now lengths) (now counts)) ≡ Accepted) × (at + length (replyWord (handed kind (now corners) (now lengths) (now counts)) query) ≤ length (now output)) ⌝ }
-    ensures { λ r. ⌜ Wrote at (replyWord (handed kind (now (corners .entry)) (now (lengths .entry)) (now (counts .entry))) query) (now (output .entry)) (now (output .exit)) r ⌝ }
+    requires { ⌜ PreparedTables state (now corners) (now rings) (now polygons) (now boxes) (now parts) (now edges) × (at + length (replyWord (planOf state (now corners) (now rings) (now polygons)) query) ≤ length (now output)) ⌝ }
+    ensures { λ r. ⌜ Wrote at (replyWord (planOf state (now (corners .entry)) (now (rings .entry)) (now (polygons .entry))) query) (now (output .entry)) (now (output .exit)) r ⌝ }
 {
     match query {
-        Query::OnGrid(p) => put_place(output, at, reply_at(kind, corners, lengths, counts, p)),
-        Query::Doubled(p) => {
-            put_place(output, at, half_reply_at(kind, corners, lengths, counts, p))
-        }
+        Query::OnGrid(p) => put_place(
+            output,
+            at,
+            reply_at(state, corners, rings, polygons, boxes, parts, edges, p),
+        ),
+        Query::Doubled(p) => put_place(
+            output,
+            at,
+            half_reply_at(state, corners, rings, polygons, boxes, parts, edges, p),
+        ),
     }
 }
 
 // The line of a reply: the query's line as it stands, and the word.
 fn put_reply(
-    kind: Kind,
+    state: State,
     corners: &[i64],
-    lengths: &[usize],
-    counts: &[usize],
+    rings: &[usize],
+    polygons: &[usize],
+    boxes: &[[i64; 4]],
+    parts: &[[usize; 3]],
+    edges: &[usize],
     line: &[u8],
     query: Query,
     output: &mut [u8],
     at: usize,
 ) -> usize
-    requires { ⌜ (planVerdict (handed kind (now corners) (now lengths) (now counts)) ≡ Accepted) × (at + length (replyLine (now line) (replyWord (handed kind (now corners) (now lengths) (now counts)) query)) ≤ length (now output)) ⌝ }
-    ensures { λ r. ⌜ Wrote at (replyLine (now (line .entry)) (replyWord (handed kind (now (corners .entry)) (now (lengths .entry)) (now (counts .entry))) query)) (now (output .entry)) (now (output .exit)) r ⌝ }
+    requires { ⌜ PreparedTables state (now corners) (now rings) (now polygons) (now boxes) (now parts) (now edges) × (at + length (replyLine (now line) (replyWord (planOf state (now corners) (now rings) (now polygons)) query)) ≤ length (now output)) ⌝ }
+    ensures { λ r. ⌜ Wrote at (replyLine (now (line .entry)) (replyWord (planOf state (now (corners .entry)) (now (rings .entry)) (now (polygons .entry))) query)) (now (output .entry)) (now (output .exit)) r ⌝ }
 {
     let repeated = put(output, at, line);
     let parted = put(output, repeated, b"\t");
-    let replied = put_word(kind, corners, lengths, counts, query, output, parted);
+    let replied = put_word(
+        state,
+        corners,
+        rings,
+        polygons,
+        boxes,
+        parts,
+        edges,
+        query,
+        output,
+        parted,
+    );
     put(output, replied, b"\n")
 }
 
@@ -143,20 +178,23 @@ pub(crate) fn line_named(refusal: Refusal) -> usize
     }
 }
 
-/// What is written for the lines of an input from a line on, whose number is given: a reply for each, or a refusal after which nothing is
-/// written. What is returned is how many bytes there are.
+/// What is written for the lines of an input from a line on, whose number is given, by look-ups in a prepared plan: a reply for each, or a
+/// refusal after which nothing is written. What is returned is how many bytes there are.
 pub(crate) fn put_replies(
-    kind: Kind,
+    state: State,
     corners: &[i64],
-    lengths: &[usize],
-    counts: &[usize],
+    rings: &[usize],
+    polygons: &[usize],
+    boxes: &[[i64; 4]],
+    parts: &[[usize; 3]],
+    edges: &[usize],
     input: &[u8],
     first: usize,
     number: usize,
     output: &mut [u8],
 ) -> usize
-    requires { ⌜ Due (handed kind (now corners) (now lengths) (now counts)) (now input) first number (now output) ⌝ }
-    ensures { λ r. ⌜ Wrote 0 (replies (handed kind (now (corners .entry)) (now (lengths .entry)) (now (counts .entry))) number (split 10 (drop first (now (input .entry))))) (now (output .entry)) (now (output .exit)) r ⌝ }
+    requires { ⌜ PreparedTables state (now corners) (now rings) (now polygons) (now boxes) (now parts) (now edges) × Due (planOf state (now corners) (now rings) (now polygons)) (now input) first number (now output) ⌝ }
+    ensures { λ r. ⌜ Wrote 0 (replies (planOf state (now (corners .entry)) (now (rings .entry)) (now (polygons .entry))) number (split 10 (drop first (now (input .entry))))) (now (output .entry)) (now (output .exit)) r ⌝ }
 {
     let mut at = 0;
     let mut line = number;
@@ -167,7 +205,19 @@ pub(crate) fn put_replies(
         let Line::Asks(query) = read_query(row) else {
             return put_refusal(output, at, 2, line);
         };
-        at = put_reply(kind, corners, lengths, counts, row, query, output, at);
+        at = put_reply(
+            state,
+            corners,
+            rings,
+            polygons,
+            boxes,
+            parts,
+            edges,
+            row,
+            query,
+            output,
+            at,
+        );
         line += 1;
         from = end + 1;
         end = find(input, b'\n', from);

@@ -31,13 +31,13 @@ node-count-half n = go (suc n) n (omega arith)
         split (no b) ih = omega (arith, node-count-leaf n (omega arith))
 
 -- 16 · 2^k edges have at most 2^(k + 2) − 1 nodes
-most : (k n : ℕ) → n ≤ 16 * 2 ^ k → nodeCount n + 1 ≤ 4 * 2 ^ k
-most zero n h = split (decLt 8 n)
+pub node-count-within : (k n : ℕ) → n ≤ 16 * 2 ^ k → nodeCount n + 1 ≤ 4 * 2 ^ k
+node-count-within zero n h = split (decLt 8 n)
   where
     split : Dec (8 < n) → nodeCount n + 1 ≤ 4
     split (yes b) = omega (arith, node-count-cut n b, node-count-leaf (n / 2) (omega arith), node-count-leaf (n - n / 2) (omega arith))
     split (no b) = omega (arith, node-count-leaf n (omega arith))
-most (suc k) n h = split (decLt 8 n) (most k)
+node-count-within (suc k) n h = split (decLt 8 n) (node-count-within k)
   where
     split : Dec (8 < n) → ((m : ℕ) → m ≤ 16 * 2 ^ k → nodeCount m + 1 ≤ 4 * 2 ^ k) → nodeCount n + 1 ≤ 4 * 2 ^ suc k
     split (yes b) ih = let l = ih (n / 2) (omega (arith, two-pow-succ k)) in let r = ih (n - n / 2) (omega (arith, two-pow-succ k)) in omega (arith, node-count-cut n b, two-pow-succ k)
@@ -59,12 +59,12 @@ fewer zero n h = omega (arith, node-count-leaf n (omega arith))
 fewer (suc k) n h = split (decLt 8 n) (fewer k (n / 2) (omega (arith, two-pow-succ k)))
   where
     split : Dec (8 < n) → nodeCount (n / 2) + 1 < 4 * 2 ^ k → nodeCount n + 1 < 4 * 2 ^ suc k
-    split (yes b) ih = omega (arith, node-count-cut n b, most k (n - n / 2) (omega (arith, two-pow-succ k)), two-pow-succ k)
+    split (yes b) ih = omega (arith, node-count-cut n b, node-count-within k (n - n / 2) (omega (arith, two-pow-succ k)), two-pow-succ k)
     split (no b) ih = omega (arith, node-count-leaf n (omega arith), two-pow-succ k, node-count-some (n / 2))
 
 -- up to the ceiling of 1,048,576 edges there are at most 262,143 nodes, and so many exactly from 589,824 edges on
 pub node-count-most : (n : ℕ) → n ≤ 1048576 → nodeCount n ≤ 262143
-node-count-most n h = omega (arith, most 16 n h)
+node-count-most n h = omega (arith, node-count-within 16 n h)
 
 pub node-count-reached : (n : ℕ) → 589824 ≤ n → n ≤ 1048576 → nodeCount n ≡ 262143
 node-count-reached n l h = omega (arith, reached 16 n l h)

@@ -10,7 +10,7 @@ use Rattle.text.proofs.Answers.{Given, given}
 use Rattle.text.proofs.Held.{counts-fit, plan-held}
 use Rattle.answers.specs.Replies.{refusalLine, replies}
 use Rattle.answers.proofs.Lines.{wrote-same}
-use Rattle.answers.proofs.Judged.{refused-line, refused-room, replies-due, plan-due}
+use Rattle.answers.proofs.Judged.{refused-line, refused-room, replies-due, plan-admitted, plan-due}
 use borrow.Author.Needs.{needs}
 use Rattle.answers.proofs.answer_in.Statement.{statement}
 use Rattle.answers.proofs.answer_in.Tie as tie
@@ -48,26 +48,26 @@ enum-known-size c = search needs
 mul-n : tie.Need-mul-n
 mul-n c = let w = counts-fit _ _ _ _ _ (was-given (c .before .before)) in let k = c .before .before .before .before .before .before .before .before .before .read-plan .kept in let p = c .before .before .before .before .before .before .before .before .before .before .before .before .before .before .before .before .before .before .before .pre in omega arith
 
-slice-reshare-prefix-put-replies : tie.Need-slice-reshare-prefix-put-replies
-slice-reshare-prefix-put-replies c = let w = counts-fit _ _ _ _ _ (was-given (c .before .before)) in let k = c .before .before .before .before .before .before .before .before .before .read-plan .kept in let p = c .before .before .before .before .before .before .before .before .before .before .before .before .before .before .before .before .before .before .before .pre in omega arith
+slice-reshare-prefix-answer-lines : tie.Need-slice-reshare-prefix-answer-lines
+slice-reshare-prefix-answer-lines c = let w = counts-fit _ _ _ _ _ (was-given (c .before .before)) in let k = c .before .before .before .before .before .before .before .before .before .read-plan .kept in let p = c .before .before .before .before .before .before .before .before .before .before .before .before .before .before .before .before .before .before .before .pre in omega arith
 
-slice-aggregate-put-replies : tie.Need-slice-aggregate-put-replies
-slice-aggregate-put-replies c = let w = counts-fit _ _ _ _ _ (was-given (c .before .before .before)) in let k = c .before .before .before .before .before .before .before .before .before .before .read-plan .kept in let p = c .before .before .before .before .before .before .before .before .before .before .before .before .before .before .before .before .before .before .before .before .pre in simp length-take (omega arith)
+slice-aggregate-answer-lines : tie.Need-slice-aggregate-answer-lines
+slice-aggregate-answer-lines c = let w = counts-fit _ _ _ _ _ (was-given (c .before .before .before)) in let k = c .before .before .before .before .before .before .before .before .before .before .read-plan .kept in let p = c .before .before .before .before .before .before .before .before .before .before .before .before .before .before .before .before .before .before .before .before .pre in simp length-take (omega arith)
 
-slice-reshare-prefix-put-replies-2 : tie.Need-slice-reshare-prefix-put-replies-2
-slice-reshare-prefix-put-replies-2 c = let w = counts-fit _ _ _ _ _ (was-given (c .before .before .before)) in let k = c .before .before .before .before .before .before .before .before .before .before .read-plan .kept in let p = c .before .before .before .before .before .before .before .before .before .before .before .before .before .before .before .before .before .before .before .before .pre in omega arith
+slice-reshare-prefix-answer-lines-2 : tie.Need-slice-reshare-prefix-answer-lines-2
+slice-reshare-prefix-answer-lines-2 c = let w = counts-fit _ _ _ _ _ (was-given (c .before .before .before)) in let k = c .before .before .before .before .before .before .before .before .before .before .read-plan .kept in let p = c .before .before .before .before .before .before .before .before .before .before .before .before .before .before .before .before .before .before .before .before .pre in omega arith
 
-slice-aggregate-put-replies-2 : tie.Need-slice-aggregate-put-replies-2
-slice-aggregate-put-replies-2 c = let w = counts-fit _ _ _ _ _ (was-given (c .before .before .before .before)) in let k = c .before .before .before .before .before .before .before .before .before .before .before .read-plan .kept in let p = c .before .before .before .before .before .before .before .before .before .before .before .before .before .before .before .before .before .before .before .before .before .pre in simp length-take (omega arith)
+slice-aggregate-answer-lines-2 : tie.Need-slice-aggregate-answer-lines-2
+slice-aggregate-answer-lines-2 c = let w = counts-fit _ _ _ _ _ (was-given (c .before .before .before .before)) in let k = c .before .before .before .before .before .before .before .before .before .before .before .read-plan .kept in let p = c .before .before .before .before .before .before .before .before .before .before .before .before .before .before .before .before .before .before .before .before .before .pre in simp length-take (omega arith)
 
-slice-reshare-prefix-put-replies-3 : tie.Need-slice-reshare-prefix-put-replies-3
-slice-reshare-prefix-put-replies-3 c = let w = counts-fit _ _ _ _ _ (was-given (c .before .before .before .before)) in let k = c .before .before .before .before .before .before .before .before .before .before .before .read-plan .kept in let p = c .before .before .before .before .before .before .before .before .before .before .before .before .before .before .before .before .before .before .before .before .before .pre in omega arith
+slice-reshare-prefix-answer-lines-3 : tie.Need-slice-reshare-prefix-answer-lines-3
+slice-reshare-prefix-answer-lines-3 c = let w = counts-fit _ _ _ _ _ (was-given (c .before .before .before .before)) in let k = c .before .before .before .before .before .before .before .before .before .before .before .read-plan .kept in let p = c .before .before .before .before .before .before .before .before .before .before .before .before .before .before .before .before .before .before .before .before .before .pre in omega arith
 
-slice-aggregate-put-replies-3 : tie.Need-slice-aggregate-put-replies-3
-slice-aggregate-put-replies-3 c = let w = counts-fit _ _ _ _ _ (was-given (c .before .before .before .before .before)) in let k = c .before .before .before .before .before .before .before .before .before .before .before .before .read-plan .kept in let p = c .before .before .before .before .before .before .before .before .before .before .before .before .before .before .before .before .before .before .before .before .before .before .pre in simp length-take (omega arith)
+slice-aggregate-answer-lines-3 : tie.Need-slice-aggregate-answer-lines-3
+slice-aggregate-answer-lines-3 c = let w = counts-fit _ _ _ _ _ (was-given (c .before .before .before .before .before)) in let k = c .before .before .before .before .before .before .before .before .before .before .before .before .read-plan .kept in let p = c .before .before .before .before .before .before .before .before .before .before .before .before .before .before .before .before .before .before .before .before .before .before .pre in simp length-take (omega arith)
 
-put-replies-requires : tie.Need-put-replies-requires
-put-replies-requires c κs = let s = c .before .before .before .before .before .before .before .before .before .before .before .before .before .before .before .before .before .before .before .before .before .before .before in let f = c .before .before .before .before .before .before .before .before .before .before .before .before .before .before .before .before .before .before .first-query in plan-due (s .args .input .now) (s .pre .0) (f .result) (f .ensures) (c .before .before .before .before .before .before .size .given .0 .0) (was-given (c .before .before .before .before .before .before)) _ (s .args .output .now) (held (c .before .before .before .before .before .before)) (s .pre .1)
+answer-lines-requires : tie.Need-answer-lines-requires
+answer-lines-requires c κs = let s = c .before .before .before .before .before .before .before .before .before .before .before .before .before .before .before .before .before .before .before .before .before .before .before in let f = c .before .before .before .before .before .before .before .before .before .before .before .before .before .before .before .before .before .before .first-query in let size = c .before .before .before .before .before .before .size .given .0 .0 in let given = was-given (c .before .before .before .before .before .before) in let is = held (c .before .before .before .before .before .before) in (plan-admitted (s .args .input .now) (s .pre .0) (f .result) (f .ensures) size given _ is, plan-due (s .args .input .now) (s .pre .0) (f .result) (f .ensures) size given _ (s .args .output .now) is (s .pre .1))
 
 enum-known-refusal : tie.Need-enum-known-refusal
 enum-known-refusal c = search needs
@@ -94,7 +94,7 @@ same-length-4 : tie.Need-same-length-4
 same-length-4 c = search needs
 
 returns : tie.Need-returns
-returns c = let s = c .before .before .before .before .before .before .before .before .before .before .before .before .before .before .before .before .before .before .before .before .before .before .before .before .before .before in let i = s .args .input .now in let f = c .before .before .before .before .before .before .before .before .before .before .before .before .before .before .before .before .before .before .before .before .before .first-query in let z = c .before .before .before .before .before .before .before .before .before .size .given .0 .0 in let r = c .before .before .put-replies in wrote-same _ _ (s .args .output .now) _ (r .result) (ap (λ plan. replies plan (f .result .line) (split 10 (drop (f .result .from) i))) (held (c .before .before .before .before .before .before .before .before .before)) ∙ sym (replies-due i (s .pre .0) (f .result) (f .ensures) z (was-given (c .before .before .before .before .before .before .before .before .before)))) (r .ensures)
+returns c = let s = c .before .before .before .before .before .before .before .before .before .before .before .before .before .before .before .before .before .before .before .before .before .before .before .before .before .before in let i = s .args .input .now in let f = c .before .before .before .before .before .before .before .before .before .before .before .before .before .before .before .before .before .before .before .before .before .first-query in let z = c .before .before .before .before .before .before .before .before .before .size .given .0 .0 in let r = c .before .before .answer-lines in wrote-same _ _ (s .args .output .now) _ (r .result) (ap (λ plan. replies plan (f .result .line) (split 10 (drop (f .result .from) i))) (held (c .before .before .before .before .before .before .before .before .before)) ∙ sym (replies-due i (s .pre .0) (f .result) (f .ensures) z (was-given (c .before .before .before .before .before .before .before .before .before)))) (r .ensures)
 
 same-length-5 : tie.Need-same-length-5
 same-length-5 c = search needs
@@ -120,13 +120,13 @@ answer-in-spec =
     read-plan-requires
     enum-known-size
     mul-n
-    slice-reshare-prefix-put-replies
-    slice-aggregate-put-replies
-    slice-reshare-prefix-put-replies-2
-    slice-aggregate-put-replies-2
-    slice-reshare-prefix-put-replies-3
-    slice-aggregate-put-replies-3
-    put-replies-requires
+    slice-reshare-prefix-answer-lines
+    slice-aggregate-answer-lines
+    slice-reshare-prefix-answer-lines-2
+    slice-aggregate-answer-lines-2
+    slice-reshare-prefix-answer-lines-3
+    slice-aggregate-answer-lines-3
+    answer-lines-requires
     enum-known-refusal
     refusal-number-requires
     line-named-requires

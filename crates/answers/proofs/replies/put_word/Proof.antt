@@ -10,7 +10,7 @@ reply-at-requires : tie.Need-reply-at-requires
 reply-at-requires c κs = search needs
 
 put-place-requires : tie.Need-put-place-requires
-put-place-requires c κs = rw (c .reply-at .ensures) (rw (c .before .before .before .query .given .1) at (c .before .before .before .before .before .before .before .before .pre .1))
+put-place-requires c κs = rw (c .reply-at .ensures) (rw (c .before .before .before .query .given .1) at (c .before .before .before .before .before .before .before .before .before .pre .1))
 
 enum-known-query-2 : tie.Need-enum-known-query-2
 enum-known-query-2 c = search needs
@@ -19,7 +19,7 @@ half-reply-at-requires : tie.Need-half-reply-at-requires
 half-reply-at-requires c κs = search needs
 
 put-place-requires-2 : tie.Need-put-place-requires-2
-put-place-requires-2 c κs = rw (c .half-reply-at .ensures) (rw (c .before .before .before .query2 .given .1) at (c .before .before .before .before .before .before .before .before .pre .1))
+put-place-requires-2 c κs = rw (c .half-reply-at .ensures) (rw (c .before .before .before .query2 .given .1) at (c .before .before .before .before .before .before .before .before .before .pre .1))
 
 same-length : tie.Need-same-length
 same-length c = search needs

@@ -1,10 +1,16 @@
 -- `answers::replies::reply_at` meets its contract.
-use Rattle.rules.specs.Plans.{planVerdict, planReply}
-use Rattle.answers.specs.Replies.{handed}
-use Rattle.answers.proofs.Lines.{accepted-reply, never-refused}
+use mathlib.Core.Path.{_≡_}
+use Rattle.rules.specs.declared.Reply.the-variants.{At}
+use Rattle.rules.specs.Plans.{planReply}
+use Rattle.rules.specs.Tables.{planOf}
+use Rattle.answers.proofs.LookUps.{grid-looked, at-place, at-no-refusal}
 use borrow.Author.Needs.{needs}
 use Rattle.answers.proofs.replies.reply_at.Statement.{statement}
 use Rattle.answers.proofs.replies.reply_at.Tie as tie
+
+-- what the look-up gives
+looked : (c : tie.After-locate) → let a = c .before .before .before .before .args in c .locate .result ≡ At (planReply (planOf (a .state) (a .corners .now) (a .rings .now) (a .polygons .now)) (a .p))
+looked c = let a = c .before .before .before .before .args in grid-looked (a .state) (a .corners .now) (a .rings .now) (a .polygons .now) (a .boxes .now) (a .parts .now) (a .edges .now) (c .before .before .before .before .pre) (a .p) (c .locate .result) (c .locate .ensures)
 
 locate-requires : tie.Need-locate-requires
 locate-requires c κs = search needs
@@ -16,10 +22,10 @@ enum-told : tie.Need-enum-told
 enum-told c = search needs
 
 returns : tie.Need-returns
-returns c = let a = c .before .before .before .before .before .before .args in let plan = handed (a .kind) (a .corners .now) (a .lengths .now) (a .counts .now) in accepted-reply (planVerdict plan) (planReply plan (a .p)) (c .before .location .given .0 .0) _ (c .before .before .before .before .before .before .pre) (c .before .before .before .locate .ensures) (c .before .location .given .1)
+returns c = at-place _ _ _ (looked (c .before .before .before)) (c .before .location .given .1)
 
 returns-2 : tie.Need-returns-2
-returns-2 c = let a = c .before .before .before .before .before .args in let plan = handed (a .kind) (a .corners .now) (a .lengths .now) (a .counts .now) in never-refused (planVerdict plan) (planReply plan (a .p)) _ _ (c .before .before .before .before .before .pre) (c .before .before .locate .ensures) (c .enum-told .given .1)
+returns-2 c = at-no-refusal _ _ _ (looked (c .before .before)) (c .enum-told .given .1)
 
 pub reply-at-spec : {M : Type 1} → statement M
 reply-at-spec =
