@@ -1,6 +1,7 @@
 //! Refusals of preparing, look-ups and lists of points: each number under its condition, in order, and nothing written.
 
-use capi::prepared::{Prepared, State, Tables};
+use capi::exports::State;
+use capi::prepared::{Prepared, Tables};
 use plans::generate::{self, SEED, Size};
 use plans::named::named_cases;
 use plans::plan::{GRID_LIMIT, Kind, Plan, Query};
@@ -128,6 +129,7 @@ fn empty() -> Tables {
         boxes: Vec::new(),
         parts: Vec::new(),
         edges: Vec::new(),
+        undo: Vec::new(),
     }
 }
 

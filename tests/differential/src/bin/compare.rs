@@ -1,111 +1,207 @@
-//! Compares prepared plans of the proved engine with those of the original: `compare [PLANS] [SEED]`.
-//!
-//! Every plan is prepared by both. Each point is asked through the boxes and ring by ring, and each list of points for its first that
-//! is not outside. It fails at the first difference, and where a class of kind, ray and reply came up too seldom.
+//! Compares the original's replies with those of the proved engine: `compare --help`.
 
-use capi::prepared::Prepared;
-use differential::classes::Classes;
-use differential::{oracle, stored};
-use plans::generate::{self, Case, SEED, Size};
-use plans::plan::{DOUBLED_LIMIT, GRID_LIMIT, Kind, Mode, Query, within};
-use plans::rays::Chooser;
+use differential::classes::Tally;
+use differential::engine::{Engine, Exports};
+use differential::faults::{Double, FAULTS, Fault};
+use differential::report::written;
+use differential::runs::{self, Failure, MODES, Mode, Portion};
+use plans::generate::SEED;
+use plans::shrink;
 use std::env;
 use std::error::Error;
+use std::ops::Range;
 use std::process::ExitCode;
 
-const PLANS: usize = 16_000;
-
-/// Plans that are often cut more than once, some of them hundreds of times.
-const SIZE: Size = Size {
-    corners: 1_500,
-    rings: 200,
-};
-
-/// The points that are asked of each plan.
-const QUERIES: usize = 64;
-
-/// How often each class has to come up.
-const OFTEN: u64 = 1_000;
-
-/// Progress is shown after so many plans.
-const SHOWN: usize = 4_000;
+/// What is asked for.
+struct Arguments {
+    modes: Vec<Mode>,
+    seed: u64,
+    portions: Option<Range<usize>>,
+    long: bool,
+    faults: bool,
+    help: bool,
+}
 
 fn main() -> Result<ExitCode, Box<dyn Error>> {
-    let mut arguments = env::args().skip(1);
-    let plans = arguments.next().map_or(Ok(PLANS), |plans| plans.parse())?;
-    let seed = arguments.next().map_or(Ok(SEED), |seed| seed.parse())?;
-    let mut classes = Classes::default();
-    let mut replies = 0;
-    for number in 0..plans {
-        let case = generate::case(seed, number, SIZE, QUERIES);
-        if let Err(difference) = compare(&case, &mut classes) {
-            println!("compare: plan {number} of seed {seed} differs\n{difference}");
-            return Ok(ExitCode::FAILURE);
-        }
-        replies += case.queries.len();
-        if (number + 1) % SHOWN == 0 {
-            eprintln!("compare: {} of {plans} plans", number + 1);
-        }
+    let arguments = arguments(env::args().skip(1))?;
+    if arguments.help {
+        print!("{}", help());
+        return Ok(ExitCode::SUCCESS);
     }
-    print!("{classes}");
-    println!("compare: seed {seed}, {plans} plans, {replies} replies, 0 differ");
-    if classes.rarest() < OFTEN {
-        println!("compare: a class came up less than {OFTEN} times");
-        return Ok(ExitCode::FAILURE);
+    if arguments.faults {
+        for fault in FAULTS {
+            println!("{fault:?}: {}", try_fault(fault, arguments.seed));
+        }
+        return Ok(ExitCode::SUCCESS);
     }
-    Ok(ExitCode::SUCCESS)
+    Ok(compare_all(&arguments))
 }
 
-/// Compares all replies to one plan, and says where they differ.
-fn compare(case: &Case, classes: &mut Classes) -> Result<(), String> {
-    let Case { plan, queries } = case;
-    let prepared = Prepared::new(plan);
-    let original = oracle::replies(plan, queries);
-    let chooser = Chooser::of(plan);
-    for (&query, &reply) in queries.iter().zip(&original) {
-        let boxes = prepared.locate(query);
-        let rings = prepared.locate_by_rings(query);
-        if boxes != i64::from(reply) || rings != i64::from(reply) {
-            let line = stored::line(plan, &[query], &[reply]);
-            return Err(format!(
-                "{query:?}: the original replies {reply}, through the boxes {boxes}, ring by ring {rings}\n{line}"
-            ));
-        }
-        if plan.in_range() && in_range(&query) {
-            classes.add(plan.kind, chooser.ray(&query), &query, reply);
+fn help() -> String {
+    let mut help = String::from(
+        "Compares the replies of the original Rust with those of the proved engine's exports.\n\
+         \n\
+         compare [PART ..] [--seed N] [--portions A..B] [--long]\n\
+         compare --faults [--seed N]\n\
+         \n\
+         Parts, all of them if none is named:\n",
+    );
+    for mode in MODES {
+        let name = mode.name();
+        for (number, line) in mode.describe().lines().enumerate() {
+            let name = if number == 0 { name } else { "" };
+            help.push_str(&format!("  {name:<8} {line}\n"));
         }
     }
-    compare_first(case, &prepared)
+    help.push_str(&format!(
+        "\n\
+         --seed N         the seed, {SEED} if none is named\n\
+         --portions A..B  of each part the portions from A up to but not with B: a run that was cut off begins\n\
+         \x20                again at the portion that it did not finish\n\
+         --long           all portions of the long run, where none are named\n\
+         --faults         tries the comparison on engines with a fault each, and says which part sees it\n\
+         \n\
+         Progress is shown on standard error. The last line has the counts. It ends with status 1 at the first\n\
+         difference, after making the plan as small as it can be, and where a class of kind, ray and reply, or an\n\
+         answer to a correction, came up less than 1,000 times.\n"
+    ));
+    help
 }
 
-/// Compares the first point that is not outside. The original looks for it in lists; out of range it is not asked.
-fn compare_first(case: &Case, prepared: &Prepared) -> Result<(), String> {
-    let Case { plan, queries } = case;
-    if plan.kind == Kind::Tree || !plan.in_range() {
-        return Ok(());
-    }
-    let asked = |query: &&Query| query.mode == Mode::Grid && in_range(query);
-    let points: Vec<(i64, i64)> = queries
-        .iter()
-        .filter(asked)
-        .map(|query| (query.x, query.y))
-        .collect();
-    let place = oracle::first_not_outside(plan, &points);
-    let coordinates: Vec<i64> = points.iter().flat_map(|&(x, y)| [x, y]).collect();
-    let ours = prepared.first_not_outside(&coordinates);
-    if ours == Ok(place) {
-        return Ok(());
-    }
-    Err(format!(
-        "first point: the original has {place:?}, ours is {ours:?}, of {points:?}\n{}",
-        stored::line(plan, &[], &[])
-    ))
-}
-
-fn in_range(query: &Query) -> bool {
-    let limit = match query.mode {
-        Mode::Grid => GRID_LIMIT,
-        Mode::Doubled => DOUBLED_LIMIT,
+fn arguments(given: impl Iterator<Item = String>) -> Result<Arguments, Box<dyn Error>> {
+    let mut arguments = Arguments {
+        modes: Vec::new(),
+        seed: SEED,
+        portions: None,
+        long: false,
+        faults: false,
+        help: false,
     };
-    within(query.x, limit) && within(query.y, limit)
+    let mut given = given;
+    while let Some(argument) = given.next() {
+        let mut value = || given.next().ok_or(format!("{argument} wants a value"));
+        match argument.as_str() {
+            "--seed" => arguments.seed = value()?.parse()?,
+            "--portions" => arguments.portions = Some(range(&value()?)?),
+            "--long" => arguments.long = true,
+            "--faults" => arguments.faults = true,
+            "--help" => arguments.help = true,
+            name => arguments.modes.push(mode(name)?),
+        }
+    }
+    if arguments.modes.is_empty() {
+        arguments.modes = MODES.to_vec();
+    }
+    Ok(arguments)
+}
+
+fn mode(name: &str) -> Result<Mode, String> {
+    let named = MODES.into_iter().find(|mode| mode.name() == name);
+    named.ok_or(format!("{name} is no part: see --help"))
+}
+
+fn range(text: &str) -> Result<Range<usize>, Box<dyn Error>> {
+    let (first, end) = text.split_once("..").ok_or("portions are written A..B")?;
+    Ok(first.parse()?..end.parse()?)
+}
+
+/// Compares every part that is asked for, to the first difference.
+fn compare_all(arguments: &Arguments) -> ExitCode {
+    let mut whole = Tally::default();
+    let mut good = true;
+    for &mode in &arguments.modes {
+        let (tally, failure) = compare_mode(mode, arguments);
+        whole += &tally;
+        if let Some(failure) = failure {
+            show(&Exports, mode, arguments.seed, &failure);
+            return ExitCode::FAILURE;
+        }
+        for lack in mode.lacks(&tally) {
+            println!("compare: {}: {lack}", mode.name());
+            good = false;
+        }
+    }
+    print_counts(&whole);
+    println!("compare: seed {}: {whole}, 0 differ", arguments.seed);
+    if good {
+        ExitCode::SUCCESS
+    } else {
+        ExitCode::FAILURE
+    }
+}
+
+/// Compares a part, portion by portion.
+fn compare_mode(mode: Mode, arguments: &Arguments) -> (Tally, Option<Box<Failure>>) {
+    let all = mode.portions(arguments.long);
+    let portions = arguments.portions.clone().unwrap_or(all);
+    let mut whole = Tally::default();
+    for number in portions {
+        let mut portion = Portion::new(&Exports, mode, number, arguments.seed);
+        let failure = portion.run().err();
+        whole += &portion.tally;
+        if failure.is_some() {
+            return (whole, failure);
+        }
+        let name = mode.name();
+        println!(
+            "compare: {name}, portion {number}: {}, 0 differ",
+            portion.tally
+        );
+    }
+    (whole, None)
+}
+
+fn print_counts(tally: &Tally) {
+    print!("{}", tally.classes);
+    for (number, count) in &tally.corrections {
+        match number {
+            0 => println!("corrections accepted: {count}"),
+            number => println!("corrections refused with {number}: {count}"),
+        }
+    }
+    println!("all moves undone: {}", tally.undone);
+    println!("plans out of range: {}", tally.out_of_range);
+    println!("plans of more than 512 edges: {}", tally.above_512_edges);
+    println!("plans of more than 64 rings: {}", tally.above_64_rings);
+}
+
+/// Shows a difference, and the smallest session that was found to show one too.
+fn show(engine: &dyn Engine, mode: Mode, seed: u64, failure: &Failure) {
+    let Failure {
+        name,
+        session,
+        difference,
+    } = failure;
+    println!(
+        "compare: {}, seed {seed}, {name}: {difference}",
+        mode.name()
+    );
+    let differs = |session: &_| runs::compare(engine, mode, session, &mut Tally::default());
+    let smallest = shrink::shrunk(session, |session| differs(session).is_err());
+    let difference = differs(&smallest).err().unwrap_or_default();
+    println!(
+        "the smallest plan found: {difference}\n{}",
+        written(&smallest)
+    );
+}
+
+/// Which part sees a fault first, and by what.
+fn try_fault(fault: Fault, seed: u64) -> String {
+    let engine = Double { fault: Some(fault) };
+    for mode in [Mode::Small, Mode::Random, Mode::Moves] {
+        let mut portion = Portion::new(&engine, mode, 0, seed);
+        let Err(failure) = portion.run() else {
+            continue;
+        };
+        let differs = |session: &_| runs::compare(&engine, mode, session, &mut Tally::default());
+        let smallest = shrink::shrunk(&failure.session, |session| differs(session).is_err());
+        let difference = differs(&smallest).err().unwrap_or_default();
+        let plans = portion.tally.plans;
+        let text = written(&smallest).replace('\t', " ").replace('\n', ", ");
+        return format!(
+            "seen by {} at plan {plans}: {difference} ({text})",
+            mode.name()
+        );
+    }
+    "seen by no part".to_string()
 }
