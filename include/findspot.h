@@ -99,6 +99,31 @@ findspot_first findspot_first_not_outside(findspot_state state, const int64_t *c
                                           size_t part_count, const size_t *edges, size_t edge_count,
                                           const int64_t *points, size_t point_count);
 
+/*
+ * Corner corrections with undo on a prepared plan. The undo table has a row for each move that can be undone: corner, old x, old y; how many
+ * rows it is lent with, and at most 65,536, is how many moves can be.
+ *
+ * A move puts a corner (numbered from 0 in the plan's order) at a new place and records its old one; a move to the same place records too.
+ * Refused, in this order: 12 (the plan is out of range), 5 (no such corner), 6 (the new place is out of range), 13 (the undo table is full), 15.
+ * An undo takes back the latest move: 12, 14 (nothing to undo), 15. A refusal is the number in `refusal`, which is 0 where the call is
+ * accepted, and changes nothing. The state that is answered goes with the tables from then on.
+ *
+ * Both write corners and boxes and nothing else, and a move one row of the undo table. They visit a few hundred entries of a plan of a million
+ * corners. Tables that `findspot_prepare` and these calls left never get 15.
+ */
+typedef struct {
+    size_t refusal;
+    findspot_state state;
+} findspot_correction;
+
+findspot_correction findspot_move(findspot_state state, int64_t *corners, size_t corner_count, const size_t *rings, size_t ring_count,
+                                  int64_t (*boxes)[4], size_t box_count, const size_t (*parts)[3], size_t part_count,
+                                  const size_t *edges, size_t edge_count, int64_t (*undo)[3], size_t undo_count,
+                                  size_t corner, int64_t x, int64_t y);
+findspot_correction findspot_undo(findspot_state state, int64_t *corners, size_t corner_count, const size_t *rings, size_t ring_count,
+                                  int64_t (*boxes)[4], size_t box_count, const size_t (*parts)[3], size_t part_count,
+                                  const size_t *edges, size_t edge_count, const int64_t (*undo)[3], size_t undo_count);
+
 #ifdef __cplusplus
 }
 #endif

@@ -1,6 +1,6 @@
 -- From the numbers that name a kind or a state to what is answered. Assumes nothing.
-use mathlib.Core.Path.{_≡_, sym, ap, subst, _∙_}
-use mathlib.Core.Bool.{cond}
+use mathlib.Core.Path.{_≡_, refl, sym, ap, subst, _∙_}
+use mathlib.Core.Bool.{Bool, true, false, cond}
 use Prim.Native.Nat.{ℕ}
 use lib.Dec.{eqb}
 use lib.IntN.{ℤ}
@@ -10,11 +10,12 @@ use borrow.Author.Tests.{ne-eqb}
 use Rattle.geom.specs.declared.Point.{Point}
 use Rattle.integers.proofs.Bits.{rd, rd-is}
 use Rattle.rules.specs.declared.Kind.{Kind}
+use Rattle.rules.specs.declared.Kind.the-variants.{Polygons, Tree}
 use Rattle.rules.specs.declared.Refusal.the-variants.{Unsound}
 use Rattle.rules.specs.declared.Reply.{Reply}
 use Rattle.rules.specs.declared.Reply as Reply
 use Rattle.rules.specs.declared.State.{State}
-use Rattle.rules.specs.Numbers.{replyNumber}
+use Rattle.rules.specs.Numbers.{refusalNumber, replyNumber}
 use Rattle.prepare.specs.declared.Preparing.{Preparing}
 use Rattle.prepare.specs.declared.Preparing as Preparing
 use Rattle.prepared.specs.declared.first.First.{First}
@@ -25,7 +26,11 @@ use Rattle.capi.specs.declared.states.NamedState.{NamedState}
 use Rattle.capi.specs.declared.states.NamedState.the-variants.{Known, Unknown}
 use Rattle.capi.specs.declared.exports.FirstAnswer.{FirstAnswer}
 use Rattle.capi.specs.declared.exports.PrepareAnswer.{PrepareAnswer}
-use Rattle.capi.specs.Exports.{Replied, Listed, PrepareSays, firstNumbers, prepareNumbers}
+use Rattle.corrections.specs.declared.Corrected.{Corrected}
+use Rattle.capi.specs.declared.states.StateNumbers.{StateNumbers}
+use Rattle.capi.specs.declared.moves.CorrectionAnswer.{CorrectionAnswer}
+use Rattle.capi.specs.States.{kindNamed, kindNumber, markNumber, stateNamed, stateNumbers}
+use Rattle.capi.specs.Exports.{Replied, Listed, PrepareSays, CorrectionSays, firstNumbers, prepareNumbers, correctionNumbers}
 
 -- ---- 0, 1, or another number
 
@@ -64,3 +69,26 @@ prepare-unknown named Promised Same answer e same is = subst (λ n. PrepareSays 
 
 pub prepare-known : (named : NamedKind) (kind : Kind) (Promised : Kind → Preparing → Type 0) (Same : Type 0) (preparing : Preparing) (answer : PrepareAnswer) → named ≡ NamedKind.the-variants.Known kind → Promised kind preparing → answer ≡ prepareNumbers preparing → PrepareSays named Promised Same answer
 prepare-known named kind Promised Same preparing answer e promised is = subst (λ n. PrepareSays n Promised Same answer) (sym e) (preparing, promised, is)
+
+-- ---- corrections
+
+pub correction-unknown : (named : NamedState) (Promised : State → Corrected → Type 0) (Same : Type 0) (numbers : StateNumbers) (answer : CorrectionAnswer) → named ≡ Unknown → Same → answer ≡ record { refusal = refusalNumber Unsound; state = numbers } → CorrectionSays named Promised Same numbers answer
+correction-unknown named Promised Same numbers answer e same is = subst (λ n. CorrectionSays n Promised Same numbers answer) (sym e) (same, is)
+
+pub correction-known : (named : NamedState) (state : State) (Promised : State → Corrected → Type 0) (Same : Type 0) (numbers : StateNumbers) (corrected : Corrected) (answer : CorrectionAnswer) → named ≡ Known state → Promised state corrected → answer ≡ correctionNumbers corrected → CorrectionSays named Promised Same numbers answer
+correction-known named state Promised Same numbers corrected answer e promised is = subst (λ n. CorrectionSays n Promised Same numbers answer) (sym e) (corrected, promised, is)
+
+-- the place that a move names was read from bits
+pub place-read : (Promised : Point → Type 0) (x y : ℤ) → SFits w64 x → SFits w64 y → Promised (record { x = rd x; y = rd y }) → Promised (record { x = x; y = y })
+place-read Promised x y fx fy promised = subst Promised (λ i. record { x = rd-is x fx i; y = rd-is y fy i }) promised
+
+-- ---- a state's own numbers name it, so that what a call answers can be handed to the next
+pub state-returns : (state : State) → stateNamed (stateNumbers state) ≡ Known state
+state-returns state = go (state .kind) (state .«out_of_range»)
+  where
+    go : (kind : Kind) (mark : Bool) → stateNamed (record { kind = kindNumber kind; «out_of_range» = markNumber mark; corners = state .corners; rings = state .rings; polygons = state .polygons; «undo_depth» = state .«undo_depth» })
+        ≡ Known (record { kind = kind; «out_of_range» = mark; corners = state .corners; rings = state .rings; polygons = state .polygons; «undo_depth» = state .«undo_depth» })
+    go Polygons true = refl
+    go Polygons false = refl
+    go Tree true = refl
+    go Tree false = refl

@@ -1,5 +1,6 @@
--- What the exports over lent tables answer (document 01, items 6 to 8 and 11).
+-- What the exports over lent tables answer (document 01, items 6 to 9 and 11).
 use mathlib.Core.Path.{_≡_}
+use mathlib.Core.List.{List}
 use Prim.Native.Nat.{ℕ}
 use lib.IntN.{ℤ}
 use Rattle.rules.specs.declared.Kind.{Kind}
@@ -15,6 +16,9 @@ use Rattle.prepare.specs.declared.Preparing as Preparing
 use Rattle.prepared.specs.declared.first.First.{First}
 use Rattle.prepared.specs.declared.first.First as First
 use Rattle.prepared.specs.Firsts.{firstNumber, firstFound, firstPlace}
+use Rattle.model.specs.declared.Answer.{Answer}
+use Rattle.model.specs.declared.Answer as Answer
+use Rattle.corrections.specs.declared.Corrected.{Corrected}
 use Rattle.capi.specs.declared.states.StateNumbers.{StateNumbers}
 use Rattle.capi.specs.declared.states.NamedKind.{NamedKind}
 use Rattle.capi.specs.declared.states.NamedKind as NamedKind
@@ -22,6 +26,7 @@ use Rattle.capi.specs.declared.states.NamedState.{NamedState}
 use Rattle.capi.specs.declared.states.NamedState.the-variants.{Known, Unknown}
 use Rattle.capi.specs.declared.exports.PrepareAnswer.{PrepareAnswer}
 use Rattle.capi.specs.declared.exports.FirstAnswer.{FirstAnswer}
+use Rattle.capi.specs.declared.moves.CorrectionAnswer.{CorrectionAnswer}
 use Rattle.capi.specs.States.{stateNumbers}
 
 -- a look-up's number, by what is promised of its reply; 15 where the numbers name no state
@@ -50,3 +55,26 @@ prepareNumbers (Preparing.the-variants.Refused refusal) = record { refusal = ref
 abbrev pub PrepareSays : NamedKind → (Kind → Preparing → Type 0) → Type 0 → PrepareAnswer → Type 0
 PrepareSays NamedKind.the-variants.Unknown Promised Same answer = Same × (answer ≡ prepareNumbers (Preparing.the-variants.Refused Unsound))
 PrepareSays (NamedKind.the-variants.Known kind) Promised Same answer = (preparing : Preparing) × Promised kind preparing × (answer ≡ prepareNumbers preparing)
+
+-- ---- a move or an undo
+
+-- 0 where it is accepted, or the refusal's number
+abbrev pub correctionRefusal : Answer → ℕ
+correctionRefusal (Answer.the-variants.At location) = 0
+correctionRefusal Answer.the-variants.Accepted = 0
+correctionRefusal (Answer.the-variants.Refused refusal) = refusalNumber refusal
+
+-- what it answers in numbers, with the state that goes with the tables from then on
+abbrev pub correctionNumbers : Corrected → CorrectionAnswer
+correctionNumbers corrected = record { refusal = correctionRefusal (corrected .answer); state = stateNumbers (corrected .state) }
+
+-- by what is promised of a correction from this state; 15, with the tables and the numbers as they were, where the numbers name no state
+abbrev pub CorrectionSays : NamedState → (State → Corrected → Type 0) → Type 0 → StateNumbers → CorrectionAnswer → Type 0
+CorrectionSays Unknown Promised Same numbers answer = Same × (answer ≡ record { refusal = refusalNumber Unsound; state = numbers })
+CorrectionSays (Known state) Promised Same numbers answer = (corrected : Corrected) × Promised state corrected × (answer ≡ correctionNumbers corrected)
+
+-- the tables that a correction may write
+pub record Written : Type 0 where
+  pub corners : List ℤ
+  pub boxes : List (List ℤ)
+  pub undo : List (List ℤ)

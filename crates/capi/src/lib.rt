@@ -4,6 +4,7 @@ ghost use Rattle.rules.specs.Numbers.{replyNumber};
 ghost use Rattle.capi.specs.Replies.{textReply, Roomy};
 
 pub mod exports;
+pub mod moves;
 pub mod states;
 
 use geom::Point;

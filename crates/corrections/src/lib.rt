@@ -68,7 +68,7 @@ fn refused(state: State, refusal: Refusal) -> Corrected
 /// The cost is that of two walks to the corner's edges, which enter only boxes that hold the edge, and of two refitted paths of at most 18
 /// boxes: on a plan of a million corners a few hundred entries. Where very many boxes hold the edge the walks are longer, at worst, with
 /// all corners at one place, as long as the plan.
-pub(crate) fn move_corner(
+pub fn move_corner(
     state: State,
     corners: &mut [i64],
     rings: &[usize],
@@ -149,7 +149,7 @@ fn take_back(
 /// Refused, in this order, with 12 (`PlanOutOfRange`) on a plan that is out of range, 14 (`NothingToUndo`), and 15 (`Unsound`), which
 /// sound tables never get. A refusal changes nothing. The undo table is never written. The boxes are made anew, and the cost is, as for a
 /// move.
-pub(crate) fn undo(
+pub fn undo(
     state: State,
     corners: &mut [i64],
     rings: &[usize],

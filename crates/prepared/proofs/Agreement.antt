@@ -5,9 +5,13 @@ use mathlib.Core.Logic.{_⊎_, inl, inr, ⊎-elim}
 use mathlib.Core.List.{List}
 use Prim.Native.Nat.{ℕ}
 use lib.IntN.{ℤ}
+use Rattle.geom.specs.declared.Point.{Point}
+use Rattle.geom.specs.Range.{inRange, inDoubledRange}
 use Rattle.rules.specs.declared.Location.{Location}
 use Rattle.rules.specs.declared.Reply.{Reply}
 use Rattle.rules.specs.declared.State.{State}
+use Rattle.rules.specs.Plans.{planReply, planHalfReply}
+use Rattle.rules.specs.Tables.{planOf}
 use Rattle.gather.specs.Regions.{LookSound}
 use Rattle.query.specs.Calls.{LookedUp}
 use Rattle.prepared.specs.Calls.{Looked}
@@ -27,3 +31,17 @@ import-and-edit state corners rings polygons boxes parts edges ranged location a
     go true r m k s = looked .early (inl m) ∙ sym (ring-looked .early (inl m))
     go false false m k s = looked .early (inr k) ∙ sym (ring-looked .early (inr k))
     go false true m k s = looked .looked m k .exact s ∙ sym (ring-looked .exact (s .plan) m)
+
+-- by name, over sound tables and for every 64-bit point
+module _ (state : State) (corners : List ℤ) (rings polygons : List ℕ) (boxes : List (List ℤ)) (parts : List (List ℕ)) (edges : List ℕ) (sound : LookSound state corners rings polygons boxes parts edges) (p : Point) (through-boxes by-rings : Reply) where
+  -- `locate` (or `locate_along` with any ray) and `locate_by_rings`
+  pub grid-alike : Looked state corners rings polygons boxes parts edges (inRange p) (planReply (planOf state corners rings polygons) p) through-boxes
+      → LookedUp state corners rings polygons (inRange p) (planReply (planOf state corners rings polygons) p) by-rings
+      → through-boxes ≡ by-rings
+  grid-alike looked ring-looked = import-and-edit state corners rings polygons boxes parts edges (inRange p) (planReply (planOf state corners rings polygons) p) through-boxes by-rings looked ring-looked (inr sound)
+
+  -- `locate_doubled` (or `locate_doubled_along` with any ray) and `locate_doubled_by_rings`
+  pub half-grid-alike : Looked state corners rings polygons boxes parts edges (inDoubledRange p) (planHalfReply (planOf state corners rings polygons) p) through-boxes
+      → LookedUp state corners rings polygons (inDoubledRange p) (planHalfReply (planOf state corners rings polygons) p) by-rings
+      → through-boxes ≡ by-rings
+  half-grid-alike looked ring-looked = import-and-edit state corners rings polygons boxes parts edges (inDoubledRange p) (planHalfReply (planOf state corners rings polygons) p) through-boxes by-rings looked ring-looked (inr sound)

@@ -1,4 +1,5 @@
 pub mod Lookings
 pub mod Listing
 pub mod Agreement
+pub mod Imports
 pub mod Caught

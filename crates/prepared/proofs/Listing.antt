@@ -31,7 +31,7 @@ use Rattle.rings.specs.Places.{isOutside}
 use Rattle.prepared.specs.declared.first.First.{First}
 use Rattle.prepared.specs.declared.first.First.the-variants.{At, AllOutside, Refused}
 use Rattle.prepared.specs.declared.first.First as First
-use Rattle.gather.specs.Regions.{LookSound}
+use Rattle.gather.specs.Regions.{Enough, LookSound}
 use Rattle.query.proofs.LookUps.{far}
 use Rattle.query.proofs.Steps.{at-refused}
 use Rattle.prepared.specs.Calls.{Looked}
@@ -199,10 +199,16 @@ never-first reply k (p ∷ points) f e = go (isOutside (reply p)) refl (never-fi
 -- ---- the loop over the list
 
 module _ (state : State) (corners : List ℤ) (rings polygons : List ℕ) (boxes : List (List ℤ)) (parts : List (List ℕ)) (edges : List ℕ) (points : List ℤ) where
+  -- some table is shorter than the state says
+  abbrev TooShort : Type 0
+  TooShort = Enough state (length corners) (length rings) (length polygons) (length boxes) (length parts) (length edges) → ⊥
+
+  -- the points so far are outside on sound tables, and out of range where a table is too short
   pub record Going (k : ℕ) : Type 0 where
     pub within : k ≤ length points / 2
     pub accepted : pointsVerdict points ≡ Accepted
     pub passed : state .«out_of_range» ≡ false → LookSound state corners rings polygons boxes parts edges → Passed (planReply (planOf state corners rings polygons)) points k
+    pub unread : state .«out_of_range» ≡ false → TooShort → (j : ℕ) → j < k → inRange (cornerAt points j) ≡ false
 
   abbrev LookedAt : Point → Reply → Type 0
   LookedAt p r = Looked state corners rings polygons boxes parts edges (inRange p) (planReply (planOf state corners rings polygons) p) r
@@ -220,8 +226,24 @@ module _ (state : State) (corners : List ℤ) (rings polygons : List ℕ) (boxes
   unfolding placeIn
   marked-out p l looked m = ap placeIn (looked .early (inl m))
 
+  -- where a table is too short, a place is that of a point out of range
+  far-place : (p : Point) (l : Location) → LookedAt p (Reply.the-variants.At l) → state .«out_of_range» ≡ false → TooShort → inRange p ≡ false
+  far-place p l looked m t = go (inRange p) refl
+    where
+      go : (b : Bool) → inRange p ≡ b → inRange p ≡ false
+      go true e = absurd (at-refused l Unsound (looked .looked m e .short t))
+      go false e = e
+
+  -- a point that is not said to be outside is in range
+  near-point : (p : Point) (r : Reply) → LookedAt p r → (r ≡ Reply.the-variants.At Outside → ⊥) → inRange p ≡ true
+  near-point p r looked not = go (inRange p) refl
+    where
+      go : (b : Bool) → inRange p ≡ b → inRange p ≡ true
+      go true e = e
+      go false e = absurd (not (looked .early (inr e)))
+
   pub going-none : pointsVerdict points ≡ Accepted → Going 0
-  going-none v = record { within = omega arith; accepted = v; passed = λ m s. refl }
+  going-none v = record { within = omega arith; accepted = v; passed = λ m s. refl; unread = λ m t j h. absurd (omega arith) }
 
   module _ (k : ℕ) (going : Going k) where
     not-judged : (refusal : Refusal) (r : First) → pointsVerdict points ≡ Verdict.the-variants.Refused refusal → r ≡ Refused refusal
@@ -235,6 +257,8 @@ module _ (state : State) (corners : List ℤ) (rings polygons : List ℕ) (boxes
       alone = λ f e. absurd (none-not f e);
       inside = λ j e. absurd (at-none j (sym e));
       marked = λ v m. refl;
+      beyond = λ v f. refl;
+      short = λ v m j l n t. absurd (clash n (going .unread m t j (omega arith)));
       exact = λ v m s. sym (going .passed m s ∙ ap (firstFrom (planReply (planOf state corners rings polygons)) k) (none-left k (cornersOf points) (omega (arith, corners-length points))));
     }
 
@@ -247,32 +271,47 @@ module _ (state : State) (corners : List ℤ) (rings polygons : List ℕ) (boxes
         within = omega arith;
         accepted = going .accepted;
         passed = λ m s. pass (planReply (planOf state corners rings polygons)) points k place-inside (going .passed m s) (ap (planReply (planOf state corners rings polygons)) (sym is) ∙ placed p l looked m s ∙ only-outside l o);
+        unread = λ m t j g. unread m t j g (decLt j k);
       }
+        where
+          unread : state .«out_of_range» ≡ false → TooShort → (j : ℕ) → j < k + 1 → Dec (j < k) → inRange (cornerAt points j) ≡ false
+          unread m t j g (yes before) = going .unread m t j before
+          unread m t j g (no last) = let here : j ≡ k = omega arith in ap (λ (i : ℕ). inRange (cornerAt points i)) here ∙ ap inRange (sym is) ∙ far-place p l looked m t
+
+      -- the point at k is in range, and so not every point is out of range
+      not-beyond : (p : Point) → p ≡ cornerAt points k → inRange p ≡ true → (r : First) → ((j : ℕ) → j < length points / 2 → inRange (cornerAt points j) ≡ false) → r ≡ AllOutside
+      not-beyond p is near r f = absurd (clash (sym (ap inRange is) ∙ near) (f k h))
 
       pub says-at : (p : Point) → p ≡ cornerAt points k → (l : Location) → LookedAt p (Reply.the-variants.At l) → isOutside l ≡ false → FirstSays state corners rings polygons boxes parts edges points (At k)
-      says-at p is l looked o = record {
-        judged = λ f e. not-judged f (At k) e;
-        alone = λ f e. absurd (at-not k f e);
-        inside = λ j e. subst (λ (i : ℕ). i < length points / 2) (same-place k j e) h;
-        marked = λ v m. absurd (clash (ap isOutside (marked-out p l looked m)) o);
-        exact = λ v m s. stop (planReply (planOf state corners rings polygons)) points k place-inside (going .passed m s) l (ap (planReply (planOf state corners rings polygons)) (sym is) ∙ placed p l looked m s) o;
-      }
+      unfolding placeIn
+      says-at p is l looked o =
+          let near = near-point p (Reply.the-variants.At l) looked (λ e. clash (ap (λ (r : Reply). isOutside (placeIn r)) e) o) in
+          record {
+            judged = λ f e. not-judged f (At k) e;
+            alone = λ f e. absurd (at-not k f e);
+            inside = λ j e. (
+              subst (λ (i : ℕ). i < length points / 2) (same-place k j e) h,
+              subst (λ (i : ℕ). inRange (cornerAt points i) ≡ true) (same-place k j e) (sym (ap inRange is) ∙ near),
+            );
+            marked = λ v m. absurd (clash (ap isOutside (marked-out p l looked m)) o);
+            beyond = λ v f. not-beyond p is near (At k) f;
+            short = λ v m j g n t. absurd (clash near (far-place p l looked m t));
+            exact = λ v m s. stop (planReply (planOf state corners rings polygons)) points k place-inside (going .passed m s) l (ap (planReply (planOf state corners rings polygons)) (sym is) ∙ placed p l looked m s) o;
+          }
 
-      pub says-unsound : (p : Point) (refusal : Refusal) → LookedAt p (Reply.the-variants.Refused refusal) → FirstSays state corners rings polygons boxes parts edges points (Refused Unsound)
-      says-unsound p refusal looked = record {
+      pub says-unsound : (p : Point) → p ≡ cornerAt points k → (refusal : Refusal) → LookedAt p (Reply.the-variants.Refused refusal) → FirstSays state corners rings polygons boxes parts edges points (Refused Unsound)
+      says-unsound p is refusal looked = record {
         judged = λ f e. not-judged f (Refused Unsound) e;
         alone = λ f e. inr (sym (same-refusal Unsound f e));
         inside = λ j e. absurd (at-not j Unsound (sym e));
         marked = λ v m. absurd (at-refused Outside refusal (sym (looked .early (inl m))));
-        exact = λ v m s. absurd (never m s);
+        beyond = λ v f. not-beyond p is near (Refused Unsound) f;
+        short = λ v m j g n t. refl;
+        exact = λ v m s. absurd (at-refused (planReply (planOf state corners rings polygons) p) refusal (sym (looked .looked m near .exact s)));
       }
         where
-          never : state .«out_of_range» ≡ false → LookSound state corners rings polygons boxes parts edges → ⊥
-          never m s = go (inRange p) refl
-            where
-              go : (b : Bool) → inRange p ≡ b → ⊥
-              go true e = at-refused (planReply (planOf state corners rings polygons) p) refusal (sym (looked .looked m e .exact s))
-              go false e = at-refused Outside refusal (sym (looked .early (inr e)))
+          near : inRange p ≡ true
+          near = near-point p (Reply.the-variants.Refused refusal) looked (λ e. at-refused Outside refusal (sym e))
 
   -- a list that is refused
   pub says-judged : (refusal : Refusal) → pointsVerdict points ≡ Verdict.the-variants.Refused refusal → FirstSays state corners rings polygons boxes parts edges points (Refused refusal)
@@ -281,6 +320,8 @@ module _ (state : State) (corners : List ℤ) (rings polygons : List ℕ) (boxes
     alone = λ f v. inl (e ∙ ap Verdict.the-variants.Refused (same-refusal refusal f v));
     inside = λ j v. absurd (at-not j refusal (sym v));
     marked = λ v m. absurd (accepted-refused refusal (sym v ∙ e));
+    beyond = λ v f. absurd (accepted-refused refusal (sym v ∙ e));
+    short = λ v m j h n t. absurd (accepted-refused refusal (sym v ∙ e));
     exact = λ v m s. absurd (accepted-refused refusal (sym v ∙ e));
   }
     where

@@ -8,6 +8,7 @@ use lib.Dec.{ltb}
 use lib.IntN.{ℤ}
 use lib.ListN.{length}
 use Rattle.geom.specs.declared.Point.{Point}
+use Rattle.geom.specs.Range.{inRange}
 use Rattle.rules.specs.declared.Location.{Location}
 use Rattle.rules.specs.declared.Refusal.{Refusal}
 use Rattle.rules.specs.declared.Refusal.the-variants.{Uneven, TooMany, Unsound}
@@ -17,10 +18,10 @@ use Rattle.rules.specs.declared.Verdict.the-variants.{Accepted}
 use Rattle.rules.specs.declared.Verdict as Verdict
 use Rattle.rules.specs.Lists.{isOdd}
 use Rattle.rules.specs.Numbers.{refusalNumber}
-use Rattle.rules.specs.Plans.{cornersOf, planReply}
+use Rattle.rules.specs.Plans.{cornersOf, cornerAt, planReply}
 use Rattle.rules.specs.Tables.{planOf}
 use Rattle.rings.specs.Places.{isOutside}
-use Rattle.gather.specs.Regions.{LookSound}
+use Rattle.gather.specs.Regions.{Enough, LookSound}
 use Rattle.prepared.specs.declared.first.First.{First}
 use Rattle.prepared.specs.declared.first.First.the-variants.{At, AllOutside, Refused}
 
@@ -55,12 +56,16 @@ firstPlace (At k) = k
 firstPlace AllOutside = 0
 firstPlace (Refused refusal) = 0
 
--- what is promised: refusals 4 and 3 of the list, on any plan; then none on a marked plan, and the plan's first on sound tables. On other
--- tables a place of the list, none, or 15
+-- what is promised: refusals 4 and 3 of the list, on any plan; then none on a marked plan and where no point is in range; 15 where some
+-- point is and a table is too short; and the plan's first on sound tables. On other tables the place of a listed point in range, none,
+-- or 15
 pub record FirstSays (state : State) (corners : List ℤ) (rings polygons : List ℕ) (boxes : List (List ℤ)) (parts : List (List ℕ)) (edges : List ℕ) (points : List ℤ) (r : First) : Type 0 where
   pub judged : (refusal : Refusal) → pointsVerdict points ≡ Verdict.the-variants.Refused refusal → r ≡ Refused refusal
   pub alone : (refusal : Refusal) → r ≡ Refused refusal → (pointsVerdict points ≡ Verdict.the-variants.Refused refusal) ⊎ (refusal ≡ Unsound)
-  pub inside : (k : ℕ) → r ≡ At k → k < length points / 2
+  pub inside : (k : ℕ) → r ≡ At k → (k < length points / 2) × (inRange (cornerAt points k) ≡ true)
   pub marked : pointsVerdict points ≡ Accepted → state .«out_of_range» ≡ true → r ≡ AllOutside
+  pub beyond : pointsVerdict points ≡ Accepted → ((k : ℕ) → k < length points / 2 → inRange (cornerAt points k) ≡ false) → r ≡ AllOutside
+  pub short : pointsVerdict points ≡ Accepted → state .«out_of_range» ≡ false → (k : ℕ) → k < length points / 2 → inRange (cornerAt points k) ≡ true
+      → (Enough state (length corners) (length rings) (length polygons) (length boxes) (length parts) (length edges) → ⊥) → r ≡ Refused Unsound
   pub exact : pointsVerdict points ≡ Accepted → state .«out_of_range» ≡ false → LookSound state corners rings polygons boxes parts edges
       → r ≡ firstOf (planReply (planOf state corners rings polygons)) (cornersOf points)

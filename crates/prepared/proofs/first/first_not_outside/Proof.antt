@@ -45,7 +45,7 @@ enum-told-2 : tie.Need-enum-told-2 Inv-loop μ-loop
 enum-told-2 c = search needs
 
 returns-2 : tie.Need-returns-2 Inv-loop μ-loop
-returns-2 c = let a = c .before .before .before .before .before .before .before .before .before .before .before .before .args in says-unsound (a .state) (a .corners .now) (a .rings .now) (a .polygons .now) (a .boxes .now) (a .parts .now) (a .edges .now) (a .points .now) (c .before .before .before .before .before .loop .k) (c .before .before .before .before .before .loop .inv) (c .before .before .before .before .loop-test .taken) (c .before .before .before .corner-at .result) _ (rw (c .enum-told2 .given .1) at (c .before .before .locate .ensures))
+returns-2 c = let a = c .before .before .before .before .before .before .before .before .before .before .before .before .args in says-unsound (a .state) (a .corners .now) (a .rings .now) (a .polygons .now) (a .boxes .now) (a .parts .now) (a .edges .now) (a .points .now) (c .before .before .before .before .before .loop .k) (c .before .before .before .before .before .loop .inv) (c .before .before .before .before .loop-test .taken) (c .before .before .before .corner-at .result) (c .before .before .before .corner-at .ensures) _ (rw (c .enum-told2 .given .1) at (c .before .before .locate .ensures))
 
 is-outside-requires : tie.Need-is-outside-requires Inv-loop μ-loop
 is-outside-requires c κs = search needs
