@@ -1,6 +1,7 @@
 //! The exports for prepared plans, as the static library has them: a state of six numbers, and tables as slices that the caller lends.
 
-use plans::plan::{Mode, Query};
+use plans::model::Call;
+use plans::plan::{Mode, Point, Query};
 
 /// The numbers that a caller keeps of a prepared plan beside its tables.
 #[repr(C)]
@@ -59,6 +60,14 @@ impl First {
     }
 }
 
+/// What a correction is answered: the refusal number or 0, and the state, which is as it was where the correction is refused.
+#[repr(C)]
+#[derive(Clone, Copy, Debug, PartialEq, Eq)]
+pub struct Corrected {
+    pub refusal: u64,
+    pub state: State,
+}
+
 /// A plan as it is handed in.
 #[derive(Clone, Copy)]
 pub struct Handed<'a> {
@@ -88,6 +97,16 @@ pub struct Shown<'a> {
     pub boxes: &'a [[i64; 4]],
     pub parts: &'a [[usize; 3]],
     pub edges: &'a [usize],
+}
+
+/// Tables that a correction reads, and those that it writes. An undo only reads its records.
+pub struct Correctable<'a> {
+    pub corners: &'a mut [i64],
+    pub rings: &'a [usize],
+    pub boxes: &'a mut [[i64; 4]],
+    pub parts: &'a [[usize; 3]],
+    pub edges: &'a [usize],
+    pub undo: &'a mut [[i64; 3]],
 }
 
 /// A table as the library takes it: where it starts, and how many entries it has.
@@ -194,6 +213,41 @@ unsafe extern "C" {
         points: Start<i64>,
         points_length: usize,
     ) -> First;
+
+    fn findspot_move(
+        state: State,
+        corners: StartMut<i64>,
+        corners_length: usize,
+        rings: Start<usize>,
+        rings_length: usize,
+        boxes: StartMut<[i64; 4]>,
+        boxes_length: usize,
+        parts: Start<[usize; 3]>,
+        parts_length: usize,
+        edges: Start<usize>,
+        edges_length: usize,
+        undo: StartMut<[i64; 3]>,
+        undo_length: usize,
+        corner: usize,
+        x: i64,
+        y: i64,
+    ) -> Corrected;
+
+    fn findspot_undo(
+        state: State,
+        corners: StartMut<i64>,
+        corners_length: usize,
+        rings: Start<usize>,
+        rings_length: usize,
+        boxes: StartMut<[i64; 4]>,
+        boxes_length: usize,
+        parts: Start<[usize; 3]>,
+        parts_length: usize,
+        edges: Start<usize>,
+        edges_length: usize,
+        undo: Start<[i64; 3]>,
+        undo_length: usize,
+    ) -> Corrected;
 }
 
 /// Prepares a plan in the tables that are lent.
@@ -294,6 +348,59 @@ pub fn first_not_outside(state: State, shown: Shown, points: &[i64]) -> First {
             shown.edges.len(),
             points.as_ptr(),
             points.len(),
+        )
+    }
+}
+
+/// Puts a corner at a new place, or takes back the latest move.
+pub fn correct(state: State, tables: Correctable, call: Call) -> Corrected {
+    match call {
+        Call::Move { corner, to } => move_corner(state, tables, corner, to),
+        Call::Undo => undo(state, tables),
+    }
+}
+
+fn move_corner(state: State, tables: Correctable, corner: usize, (x, y): Point) -> Corrected {
+    // SAFETY: each pointer and length are those of one slice, which outlives the call; no two of them overlap where one is written.
+    unsafe {
+        findspot_move(
+            state,
+            tables.corners.as_mut_ptr(),
+            tables.corners.len(),
+            tables.rings.as_ptr(),
+            tables.rings.len(),
+            tables.boxes.as_mut_ptr(),
+            tables.boxes.len(),
+            tables.parts.as_ptr(),
+            tables.parts.len(),
+            tables.edges.as_ptr(),
+            tables.edges.len(),
+            tables.undo.as_mut_ptr(),
+            tables.undo.len(),
+            corner,
+            x,
+            y,
+        )
+    }
+}
+
+fn undo(state: State, tables: Correctable) -> Corrected {
+    // SAFETY: each pointer and length are those of one slice, which outlives the call; no two of them overlap where one is written.
+    unsafe {
+        findspot_undo(
+            state,
+            tables.corners.as_mut_ptr(),
+            tables.corners.len(),
+            tables.rings.as_ptr(),
+            tables.rings.len(),
+            tables.boxes.as_mut_ptr(),
+            tables.boxes.len(),
+            tables.parts.as_ptr(),
+            tables.parts.len(),
+            tables.edges.as_ptr(),
+            tables.edges.len(),
+            tables.undo.as_ptr(),
+            tables.undo.len(),
         )
     }
 }

@@ -1,6 +1,7 @@
 //! Prepared plans: the exports over tables that are kept in lists.
 
-use crate::exports::{self, Handed, Lent, Preparing, Shown, State};
+use crate::exports::{self, Correctable, Corrected, Handed, Lent, Preparing, Shown, State};
+use plans::model::Call;
 use plans::plan::{Plan, Query};
 
 /// Tables to lend.
@@ -91,6 +92,19 @@ impl Tables {
     pub fn first_not_outside(&self, state: State, points: &[i64]) -> Result<Option<usize>, u64> {
         exports::first_not_outside(state, self.shown(), points).answer()
     }
+
+    /// Makes a correction in these tables.
+    pub fn correct(&mut self, state: State, call: Call) -> Corrected {
+        let tables = Correctable {
+            corners: &mut self.corners,
+            rings: &self.rings,
+            boxes: &mut self.boxes,
+            parts: &self.parts,
+            edges: &self.edges,
+            undo: &mut self.undo,
+        };
+        exports::correct(state, tables, call)
+    }
 }
 
 /// A plan with its tables, prepared.
@@ -136,5 +150,12 @@ impl Prepared {
     /// The first of the points that is not outside.
     pub fn first_not_outside(&self, points: &[i64]) -> Result<Option<usize>, u64> {
         self.tables.first_not_outside(self.state, points)
+    }
+
+    /// Makes a correction and keeps the state that it gives, or gives the number by which it is refused.
+    pub fn correct(&mut self, call: Call) -> Result<(), u64> {
+        let Corrected { refusal, state } = self.tables.correct(self.state, call);
+        self.state = state;
+        if refusal == 0 { Ok(()) } else { Err(refusal) }
     }
 }

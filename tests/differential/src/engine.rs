@@ -30,6 +30,6 @@ pub struct Exports;
 
 impl Engine for Exports {
     fn correct(&self, prepared: &mut Prepared, call: Call) -> Result<(), u64> {
-        crate::faults::Double { fault: None }.correct(prepared, call)
+        prepared.correct(call)
     }
 }

@@ -43,8 +43,8 @@ const RANDOM_SIZE: Size = Size {
     rings: 200,
 };
 
-/// Every so many plans one is larger still.
-const LARGER_EVERY: usize = 100;
+/// Every so many plans one is larger still: a number that shares no divisor with that of the families, so that each has its turn.
+const LARGER_EVERY: usize = 99;
 const LARGER_SIZE: Size = Size {
     corners: 20_000,
     rings: 4_000,
@@ -57,6 +57,13 @@ const POINTS_AFTER: usize = 24;
 const SESSION_SIZE: Size = Size {
     corners: 150,
     rings: 40,
+};
+
+/// Every so many sessions one is of a larger plan; likewise.
+const LARGER_SESSION_EVERY: usize = 51;
+const LARGER_SESSION_SIZE: Size = Size {
+    corners: 3_000,
+    rings: 500,
 };
 
 /// Corrections of a plan at the ceilings. A look-up in the last of these plans meets every edge: few points are asked after each.
@@ -116,9 +123,9 @@ impl Mode {
         match (self, long) {
             (Mode::Small, false) => 0..1,
             (Mode::Small, true) => 0..1 + small::PLACES,
-            (Mode::Random, false) => 0..4,
+            (Mode::Random, false) => 0..3,
             (Mode::Random, true) => 0..60,
-            (Mode::Largest, false) => 0..2,
+            (Mode::Largest, false) => 1..3,
             (Mode::Largest, true) => 0..LARGEST.len(),
             (Mode::Moves, false) => 0..2,
             (Mode::Moves, true) => 0..40,
@@ -130,7 +137,8 @@ impl Mode {
     /// What came up too seldom in a whole run of it.
     pub fn lacks(self, tally: &Tally) -> Vec<String> {
         let mut lacks = Vec::new();
-        if self != Mode::Largest && tally.classes.rarest() < OFTEN {
+        let few = matches!(self, Mode::Small | Mode::Largest);
+        if !few && tally.classes.rarest() < OFTEN {
             let rarest = tally.classes.rarest();
             lacks.push(format!(
                 "a class of kind, ray and reply came up {rarest} times"
@@ -265,7 +273,12 @@ impl<'a> Portion<'a> {
     fn run_moves(&mut self) -> Result<(), Box<Failure>> {
         let seed = self.own_seed();
         for number in 0..SESSIONS {
-            let session = sessions::session(seed, number, SESSION_SIZE, CORRECTIONS, POINTS_AFTER);
+            let size = if number % LARGER_SESSION_EVERY == LARGER_SESSION_EVERY - 1 {
+                LARGER_SESSION_SIZE
+            } else {
+                SESSION_SIZE
+            };
+            let session = sessions::session(seed, number, size, CORRECTIONS, POINTS_AFTER);
             self.compare(session, || format!("session {number} of seed {seed}"))?;
         }
         Ok(())

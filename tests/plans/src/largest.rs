@@ -38,8 +38,8 @@ pub const LARGEST: [LargestPlan; 7] = [
         make: many_rings,
     },
     LargestPlan {
-        name: "a list of one polygon whose ring wanders over the whole range",
-        points: 5_000,
+        name: "a list of one polygon whose ring winds over the whole range",
+        points: 20_000,
         make: one_ring,
     },
     LargestPlan {
@@ -48,8 +48,8 @@ pub const LARGEST: [LargestPlan; 7] = [
         make: long_rings,
     },
     LargestPlan {
-        name: "a list of 32,768 polygons with a hole, half of the corners in the last",
-        points: 20_000,
+        name: "a list of 32,768 polygons with a hole, most of the corners in the last",
+        points: 500,
         make: uneven_polygons,
     },
     LargestPlan {
