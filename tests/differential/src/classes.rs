@@ -102,8 +102,9 @@ impl Tally {
         }
     }
 
-    /// Counts the answer to a correction.
-    pub fn add_correction(&mut self, answer: Result<(), u64>) {
+    /// Counts the answer to a correction, after which so many moves can be undone.
+    pub fn add_correction(&mut self, answer: Result<(), u64>, depth: usize) {
+        self.undone += u64::from(answer.is_ok() && depth == 0);
         let number = answer.err().unwrap_or_default();
         *self.corrections.entry(number).or_default() += 1;
     }

@@ -1,9 +1,10 @@
 //! A plain double of the engine with one fault, to try whether a comparison sees it. Without a fault it answers as the engine does.
 
 use crate::engine::Engine;
+use crate::runs::{Failure, Mode, Portion};
 use capi::prepared::{Prepared, Tables};
 use plans::model::{Call, Model};
-use plans::plan::{Kind, Mode, Plan, Query};
+use plans::plan::{self, Kind, Plan, Query};
 use std::collections::BTreeMap;
 
 /// What is wrong with a double.
@@ -38,6 +39,25 @@ pub struct Double {
     pub fault: Option<Fault>,
 }
 
+/// The parts of the comparison that are tried on a fault, with so many plans each.
+const TRIED: [(Mode, usize); 3] = [
+    (Mode::Small, 10_000),
+    (Mode::Random, 1_500),
+    (Mode::Moves, 150),
+];
+
+/// What a comparison with a double finds first, if anything.
+pub fn first_difference(fault: Option<Fault>, seed: u64) -> Option<(Mode, Box<Failure>)> {
+    let engine = Double { fault };
+    for (mode, most) in TRIED {
+        let mut portion = Portion::new(&engine, mode, 0, seed);
+        if let Err(failure) = portion.run_some(most) {
+            return Some((mode, failure));
+        }
+    }
+    None
+}
+
 /// A point in integers wide enough for every product.
 type WidePoint = (i128, i128);
 
@@ -68,9 +88,9 @@ impl Engine for Double {
         }
         let met = self.rings_met(&prepared.tables, query);
         match query.mode {
-            Mode::Doubled => half_grid_reply(&met),
-            Mode::Grid if prepared.state.kind == Kind::Tree as u64 => self.tree_reply(&met),
-            Mode::Grid => self.list_reply(&met, &prepared.tables.polygons),
+            plan::Mode::Doubled => half_grid_reply(&met),
+            plan::Mode::Grid if prepared.state.kind == Kind::Tree as u64 => self.tree_reply(&met),
+            plan::Mode::Grid => self.list_reply(&met, &prepared.tables.polygons),
         }
     }
 
@@ -158,8 +178,8 @@ impl Double {
     /// Follows a ray to the side of the root box and gathers what its edges say, ring by ring.
     fn rings_met(&self, tables: &Tables, query: Query) -> BTreeMap<usize, Met> {
         let scale = match query.mode {
-            Mode::Grid => 1,
-            Mode::Doubled => 2,
+            plan::Mode::Grid => 1,
+            plan::Mode::Doubled => 2,
         };
         let p = wide([query.x, query.y], 1);
         let root = rect_of(tables.boxes[0], scale);

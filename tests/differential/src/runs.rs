@@ -5,8 +5,8 @@ use crate::classes::Tally;
 use crate::engine::Engine;
 use crate::{lookups, moves};
 use plans::generate::{self, Case, Size};
-use plans::largest::{LARGEST, LargestPlan};
-use plans::plan::{Plan, Query};
+use plans::largest::LARGEST;
+use plans::plan::Plan;
 use plans::points;
 use plans::random::Random;
 use plans::sessions::{self, Session};
@@ -186,7 +186,6 @@ pub struct Portion<'a> {
     pub number: usize,
     pub seed: u64,
     pub tally: Tally,
-    progress: Progress,
 }
 
 impl<'a> Portion<'a> {
@@ -197,137 +196,101 @@ impl<'a> Portion<'a> {
             number,
             seed,
             tally: Tally::default(),
-            progress: Progress::new(),
         }
     }
 
     /// Compares the whole portion, to the first difference.
     pub fn run(&mut self) -> Result<(), Box<Failure>> {
+        self.run_some(usize::MAX)
+    }
+
+    /// Compares so many of the portion's sessions.
+    pub fn run_some(&mut self, most: usize) -> Result<(), Box<Failure>> {
+        let mut progress = Progress::new();
+        for (place, session) in self.sessions().enumerate().take(most) {
+            let compared = compare(self.engine, self.mode, &session, &mut self.tally);
+            progress.show(self.mode, self.number, &self.tally);
+            if let Err(difference) = compared {
+                let name = self.name(place);
+                return Err(Box::new(Failure {
+                    name,
+                    session,
+                    difference,
+                }));
+            }
+        }
+        Ok(())
+    }
+
+    /// The name of the session at a place of this portion.
+    fn name(&self, place: usize) -> String {
+        let (mode, number, seed) = (self.mode.name(), self.number, self.seed);
+        format!("{mode}, portion {number}, seed {seed}, plan {place}")
+    }
+
+    /// The sessions of this portion, in turn.
+    fn sessions(&self) -> Box<dyn Iterator<Item = Session>> {
+        let seed = self.seed.wrapping_add(self.number as u64);
         match self.mode {
-            Mode::Small if self.number == 0 => self.run_smallest(),
-            Mode::Small => self.run_splits(),
-            Mode::Random => self.run_random(),
-            Mode::Largest => self.run_largest(),
-            Mode::Moves => self.run_moves(),
-            Mode::Rules => self.run_rules(),
-        }
-    }
-
-    fn run_smallest(&mut self) -> Result<(), Box<Failure>> {
-        let window = small::window();
-        for count in 0..4 {
-            for corners in small::corner_lists(count) {
-                for plan in small::splits(&corners) {
-                    let with_empty_ring = small::with_empty_ring(plan.clone());
-                    self.compare_small(plan, &window)?;
-                    self.compare_small(with_empty_ring, &window)?;
-                }
+            Mode::Small => {
+                let window = small::window();
+                Box::new(small_plans(self.number).map(move |plan| {
+                    let queries = window.clone();
+                    Session::of(Case { plan, queries })
+                }))
             }
+            Mode::Random => Box::new((0..RANDOM_PLANS).map(move |number| {
+                let size = every(number, LARGER_EVERY, LARGER_SIZE, RANDOM_SIZE);
+                Session::of(generate::case(seed, number, size, RANDOM_POINTS))
+            })),
+            Mode::Moves => Box::new((0..SESSIONS).map(move |number| {
+                let larger = LARGER_SESSION_SIZE;
+                let size = every(number, LARGER_SESSION_EVERY, larger, SESSION_SIZE);
+                sessions::session(seed, number, size, CORRECTIONS, POINTS_AFTER)
+            })),
+            Mode::Rules => Box::new((0..RULED_PLANS).map(move |number| {
+                Session::of(generate::case(seed, number, RANDOM_SIZE, RULED_POINTS))
+            })),
+            Mode::Largest => Box::new(largest_sessions(self.seed, self.number).into_iter()),
         }
-        for corners in small::corner_lists(4) {
-            for plan in small::unsplit(&corners) {
-                self.compare_small(plan, &window)?;
-            }
-        }
-        Ok(())
     }
+}
 
-    fn run_splits(&mut self) -> Result<(), Box<Failure>> {
-        let window = small::window();
-        for corners in small::corner_lists_from(self.number - 1, 4) {
-            for plan in small::splits(&corners) {
-                self.compare_small(plan, &window)?;
-            }
-        }
-        Ok(())
+/// The larger size once in so many numbers.
+fn every(number: usize, count: usize, larger: Size, size: Size) -> Size {
+    if number % count == count - 1 {
+        larger
+    } else {
+        size
     }
+}
 
-    fn compare_small(&mut self, plan: Plan, window: &[Query]) -> Result<(), Box<Failure>> {
-        let queries = window.to_vec();
-        self.compare(Session::of(Case { plan, queries }), || {
-            "a plan on the small grid".to_string()
-        })
+/// The plans of a portion of the small grid.
+fn small_plans(portion: usize) -> Box<dyn Iterator<Item = Plan>> {
+    if portion > 0 {
+        let lists = small::corner_lists_from(portion - 1, 4);
+        return Box::new(lists.flat_map(|corners| small::splits(&corners)));
     }
+    let with_empty_ring = |plan: Plan| [small::with_empty_ring(plan.clone()), plan];
+    let lists = (0..4).flat_map(small::corner_lists);
+    let split = lists.flat_map(|corners| small::splits(&corners));
+    let unsplit = small::corner_lists(4).flat_map(|corners| small::unsplit(&corners));
+    Box::new(split.flat_map(with_empty_ring).chain(unsplit))
+}
 
-    /// The seed of this portion's generated plans.
-    fn own_seed(&self) -> u64 {
-        self.seed.wrapping_add(self.number as u64)
-    }
-
-    fn run_random(&mut self) -> Result<(), Box<Failure>> {
-        let seed = self.own_seed();
-        for number in 0..RANDOM_PLANS {
-            let size = if number % LARGER_EVERY == LARGER_EVERY - 1 {
-                LARGER_SIZE
-            } else {
-                RANDOM_SIZE
-            };
-            let case = generate::case(seed, number, size, RANDOM_POINTS);
-            self.compare(Session::of(case), || {
-                format!("plan {number} of seed {seed}")
-            })?;
-        }
-        Ok(())
-    }
-
-    fn run_moves(&mut self) -> Result<(), Box<Failure>> {
-        let seed = self.own_seed();
-        for number in 0..SESSIONS {
-            let size = if number % LARGER_SESSION_EVERY == LARGER_SESSION_EVERY - 1 {
-                LARGER_SESSION_SIZE
-            } else {
-                SESSION_SIZE
-            };
-            let session = sessions::session(seed, number, size, CORRECTIONS, POINTS_AFTER);
-            self.compare(session, || format!("session {number} of seed {seed}"))?;
-        }
-        Ok(())
-    }
-
-    fn run_rules(&mut self) -> Result<(), Box<Failure>> {
-        let seed = self.own_seed();
-        for number in 0..RULED_PLANS {
-            let case = generate::case(seed, number, RANDOM_SIZE, RULED_POINTS);
-            self.compare(Session::of(case), || {
-                format!("plan {number} of seed {seed}")
-            })?;
-        }
-        Ok(())
-    }
-
-    fn run_largest(&mut self) -> Result<(), Box<Failure>> {
-        let largest: &LargestPlan = &LARGEST[self.number % LARGEST.len()];
-        let mut random = Random::new(self.seed, self.number as u64);
-        let plan = largest.plan(&mut random);
-        let queries = points::queries(&mut random, &plan, largest.points);
-        let corrected = sessions::session_of(
-            &mut random,
-            plan.clone(),
-            CORRECTIONS_OF_LARGEST,
-            POINTS_AFTER_OF_LARGEST,
-        );
-        self.compare(Session::of(Case { plan, queries }), || {
-            largest.name.to_string()
-        })?;
-        self.compare(corrected, || format!("corrections of {}", largest.name))
-    }
-
-    /// Compares one session; `name` says which it is.
-    fn compare(
-        &mut self,
-        session: Session,
-        name: impl FnOnce() -> String,
-    ) -> Result<(), Box<Failure>> {
-        let compared = compare(self.engine, self.mode, &session, &mut self.tally);
-        self.progress.show(self.mode, self.number, &self.tally);
-        compared.map_err(|difference| {
-            Box::new(Failure {
-                name: name(),
-                session,
-                difference,
-            })
-        })
-    }
+/// A plan at the ceilings: its points, then some corrections.
+fn largest_sessions(seed: u64, portion: usize) -> [Session; 2] {
+    let largest = &LARGEST[portion % LARGEST.len()];
+    let mut random = Random::new(seed, portion as u64);
+    let plan = largest.plan(&mut random);
+    let queries = points::queries(&mut random, &plan, largest.points);
+    let corrected = sessions::session_of(
+        &mut random,
+        plan.clone(),
+        CORRECTIONS_OF_LARGEST,
+        POINTS_AFTER_OF_LARGEST,
+    );
+    [Session::of(Case { plan, queries }), corrected]
 }
 
 /// Shows on standard error, every few seconds, how far a portion is.

@@ -11,6 +11,9 @@ use std::time::{Duration, Instant};
 const TRIES: usize = 20_000;
 const TIME: Duration = Duration::from_secs(60);
 
+/// Coordinates up to this size are made less one by one.
+const SMALL: i64 = 64;
+
 /// A session in pieces that can be left out.
 #[derive(Clone)]
 struct Pieces {
@@ -51,7 +54,7 @@ impl<F: FnMut(&Session) -> bool> Search<F> {
         smaller |= self.drop_corners();
         smaller |= self.shorten_undo_table();
         smaller |= self.halve_all();
-        smaller | self.halve_each()
+        smaller | self.lessen_each()
     }
 
     /// Takes other pieces if they still fail.
@@ -163,14 +166,25 @@ impl<F: FnMut(&Session) -> bool> Search<F> {
         smaller
     }
 
-    /// Halves all coordinates together.
+    /// Halves all coordinates together, then all x, then all y.
     fn halve_all(&mut self) -> bool {
+        let mut smaller = false;
+        for halved in [&[0, 1][..], &[0], &[1]] {
+            smaller |= self.halve_axes(halved);
+        }
+        smaller
+    }
+
+    /// Halves the coordinates of these axes, 0 for x and 1 for y, for as long as that is possible.
+    fn halve_axes(&mut self, axes: &[usize]) -> bool {
         let mut smaller = false;
         loop {
             let mut pieces = self.smallest.clone();
             let mut changed = false;
-            for number in pieces.coordinates() {
-                changed |= halve(number);
+            for (place, number) in pieces.coordinates().into_iter().enumerate() {
+                if axes.contains(&(place % 2)) {
+                    changed |= halve(number);
+                }
             }
             if !changed || !self.take(pieces) {
                 return smaller;
@@ -179,20 +193,28 @@ impl<F: FnMut(&Session) -> bool> Search<F> {
         }
     }
 
-    /// Halves coordinates one by one.
-    fn halve_each(&mut self) -> bool {
+    /// Halves coordinates one by one, and takes small ones nearer to 0 by one.
+    fn lessen_each(&mut self) -> bool {
         let mut smaller = false;
         for place in 0..self.smallest.coordinates().len() {
-            loop {
-                let mut pieces = self.smallest.clone();
-                let changed = halve(pieces.coordinates().swap_remove(place));
-                if !changed || !self.take(pieces) {
-                    break;
-                }
-                smaller = true;
+            for lessen in [halve, step] {
+                smaller |= self.lessen(place, lessen);
             }
         }
         smaller
+    }
+
+    /// Makes one coordinate less for as long as that is possible.
+    fn lessen(&mut self, place: usize, lessen: fn(&mut i64) -> bool) -> bool {
+        let mut smaller = false;
+        loop {
+            let mut pieces = self.smallest.clone();
+            let changed = lessen(pieces.coordinates().swap_remove(place));
+            if !changed || !self.take(pieces) {
+                return smaller;
+            }
+            smaller = true;
+        }
     }
 }
 
@@ -200,6 +222,15 @@ impl<F: FnMut(&Session) -> bool> Search<F> {
 fn halve(number: &mut i64) -> bool {
     let before = *number;
     *number /= 2;
+    *number != before
+}
+
+/// Takes a small number nearer to 0 by one; whether it is another one then.
+fn step(number: &mut i64) -> bool {
+    let before = *number;
+    if before.abs() <= SMALL {
+        *number -= before.signum();
+    }
     *number != before
 }
 
@@ -253,7 +284,7 @@ impl Pieces {
         });
     }
 
-    /// The coordinates of corners, points and new places.
+    /// The coordinates of corners, points and new places: x, y, x, y, ..
     fn coordinates(&mut self) -> Vec<&mut i64> {
         let mut coordinates = Vec::new();
         let corners = self.groups.iter_mut().flatten().flatten();

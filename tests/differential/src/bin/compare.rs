@@ -2,10 +2,11 @@
 
 use differential::classes::Tally;
 use differential::engine::{Engine, Exports};
-use differential::faults::{Double, FAULTS, Fault};
+use differential::faults::{self, Double, FAULTS, Fault};
 use differential::report::written;
 use differential::runs::{self, Failure, MODES, Mode, Portion};
 use plans::generate::SEED;
+use plans::sessions::Session;
 use plans::shrink;
 use std::env;
 use std::error::Error;
@@ -113,7 +114,7 @@ fn compare_all(arguments: &Arguments) -> ExitCode {
         let (tally, failure) = compare_mode(mode, arguments);
         whole += &tally;
         if let Some(failure) = failure {
-            show(&Exports, mode, arguments.seed, &failure);
+            show(&Exports, mode, &failure);
             return ExitCode::FAILURE;
         }
         for lack in mode.lacks(&tally) {
@@ -166,42 +167,30 @@ fn print_counts(tally: &Tally) {
 }
 
 /// Shows a difference, and the smallest session that was found to show one too.
-fn show(engine: &dyn Engine, mode: Mode, seed: u64, failure: &Failure) {
-    let Failure {
-        name,
-        session,
-        difference,
-    } = failure;
-    println!(
-        "compare: {}, seed {seed}, {name}: {difference}",
-        mode.name()
-    );
-    let differs = |session: &_| runs::compare(engine, mode, session, &mut Tally::default());
-    let smallest = shrink::shrunk(session, |session| differs(session).is_err());
-    let difference = differs(&smallest).err().unwrap_or_default();
+fn show(engine: &dyn Engine, mode: Mode, failure: &Failure) {
+    println!("compare: {}: {}", failure.name, failure.difference);
+    let (smallest, difference) = shrunk(engine, mode, failure);
     println!(
         "the smallest plan found: {difference}\n{}",
         written(&smallest)
     );
 }
 
+/// The smallest session that was found to differ, and how.
+fn shrunk(engine: &dyn Engine, mode: Mode, failure: &Failure) -> (Session, String) {
+    let differs = |session: &Session| runs::compare(engine, mode, session, &mut Tally::default());
+    let smallest = shrink::shrunk(&failure.session, |session| differs(session).is_err());
+    let difference = differs(&smallest).err().unwrap_or_default();
+    (smallest, difference)
+}
+
 /// Which part sees a fault first, and by what.
 fn try_fault(fault: Fault, seed: u64) -> String {
     let engine = Double { fault: Some(fault) };
-    for mode in [Mode::Small, Mode::Random, Mode::Moves] {
-        let mut portion = Portion::new(&engine, mode, 0, seed);
-        let Err(failure) = portion.run() else {
-            continue;
-        };
-        let differs = |session: &_| runs::compare(&engine, mode, session, &mut Tally::default());
-        let smallest = shrink::shrunk(&failure.session, |session| differs(session).is_err());
-        let difference = differs(&smallest).err().unwrap_or_default();
-        let plans = portion.tally.plans;
-        let text = written(&smallest).replace('\t', " ").replace('\n', ", ");
-        return format!(
-            "seen by {} at plan {plans}: {difference} ({text})",
-            mode.name()
-        );
-    }
-    "seen by no part".to_string()
+    let Some((mode, failure)) = faults::first_difference(Some(fault), seed) else {
+        return "changes no answer".to_string();
+    };
+    let (smallest, difference) = shrunk(&engine, mode, &failure);
+    let text = written(&smallest).replace('\t', " ").replace('\n', "; ");
+    format!("{}: {difference}: {text}", failure.name)
 }
