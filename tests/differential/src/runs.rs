@@ -106,7 +106,9 @@ impl Mode {
                  corners, and coordinates at the ends of the range and beyond; a portion has a seed\n\
                  of its own, the seed plus its number"
             }
-            Mode::Largest => "plans of 1,048,576 corners, one a portion, with corrections of some",
+            Mode::Largest => {
+                "plans of 1,048,576 corners, one of seven a portion, and corrections of each"
+            }
             Mode::Moves => {
                 "moves and undos on generated plans: each answer, the tables after it, and the\n\
                  replies of the original prepared anew; seeds as for random"
@@ -132,6 +134,12 @@ impl Mode {
             (Mode::Rules, false) => 0..1,
             (Mode::Rules, true) => 0..20,
         }
+    }
+
+    /// Whether there is a portion of this number. There is no end to those that depend on a seed.
+    pub fn has_portion(self, number: usize) -> bool {
+        let seeded = matches!(self, Mode::Random | Mode::Moves | Mode::Rules);
+        seeded || self.portions(true).contains(&number)
     }
 
     /// What came up too seldom in a whole run of it.

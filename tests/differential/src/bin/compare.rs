@@ -9,9 +9,9 @@ use plans::generate::SEED;
 use plans::sessions::Session;
 use plans::shrink;
 use std::env;
-use std::error::Error;
 use std::ops::Range;
 use std::process::ExitCode;
+use std::str::FromStr;
 
 /// What is asked for.
 struct Arguments {
@@ -23,19 +23,25 @@ struct Arguments {
     help: bool,
 }
 
-fn main() -> Result<ExitCode, Box<dyn Error>> {
-    let arguments = arguments(env::args().skip(1))?;
+fn main() -> ExitCode {
+    let arguments = match arguments(env::args().skip(1)) {
+        Ok(arguments) => arguments,
+        Err(message) => {
+            eprintln!("compare: {message}; --help says what there is");
+            return ExitCode::from(2);
+        }
+    };
     if arguments.help {
         print!("{}", help());
-        return Ok(ExitCode::SUCCESS);
+        return ExitCode::SUCCESS;
     }
     if arguments.faults {
         for fault in FAULTS {
             println!("{fault:?}: {}", try_fault(fault, arguments.seed));
         }
-        return Ok(ExitCode::SUCCESS);
+        return ExitCode::SUCCESS;
     }
-    Ok(compare_all(&arguments))
+    compare_all(&arguments)
 }
 
 fn help() -> String {
@@ -69,7 +75,7 @@ fn help() -> String {
     help
 }
 
-fn arguments(given: impl Iterator<Item = String>) -> Result<Arguments, Box<dyn Error>> {
+fn arguments(given: impl Iterator<Item = String>) -> Result<Arguments, String> {
     let mut arguments = Arguments {
         modes: Vec::new(),
         seed: SEED,
@@ -82,7 +88,7 @@ fn arguments(given: impl Iterator<Item = String>) -> Result<Arguments, Box<dyn E
     while let Some(argument) = given.next() {
         let mut value = || given.next().ok_or(format!("{argument} wants a value"));
         match argument.as_str() {
-            "--seed" => arguments.seed = value()?.parse()?,
+            "--seed" => arguments.seed = number(&value()?)?,
             "--portions" => arguments.portions = Some(range(&value()?)?),
             "--long" => arguments.long = true,
             "--faults" => arguments.faults = true,
@@ -93,17 +99,35 @@ fn arguments(given: impl Iterator<Item = String>) -> Result<Arguments, Box<dyn E
     if arguments.modes.is_empty() {
         arguments.modes = MODES.to_vec();
     }
-    Ok(arguments)
+    match lacking(&arguments) {
+        Some(message) => Err(message),
+        None => Ok(arguments),
+    }
+}
+
+/// A portion that is asked for and that there is none of.
+fn lacking(arguments: &Arguments) -> Option<String> {
+    let last = arguments.portions.as_ref()?.end.checked_sub(1)?;
+    let mode = arguments
+        .modes
+        .iter()
+        .find(|mode| !mode.has_portion(last))?;
+    Some(format!("{} has no portion {last}", mode.name()))
 }
 
 fn mode(name: &str) -> Result<Mode, String> {
     let named = MODES.into_iter().find(|mode| mode.name() == name);
-    named.ok_or(format!("{name} is no part: see --help"))
+    named.ok_or(format!("{name} is no part"))
 }
 
-fn range(text: &str) -> Result<Range<usize>, Box<dyn Error>> {
-    let (first, end) = text.split_once("..").ok_or("portions are written A..B")?;
-    Ok(first.parse()?..end.parse()?)
+fn number<T: FromStr>(text: &str) -> Result<T, String> {
+    text.parse().map_err(|_| format!("{text} is no number"))
+}
+
+fn range(text: &str) -> Result<Range<usize>, String> {
+    let ends = text.split_once("..");
+    let (first, end) = ends.ok_or("portions are written A..B".to_string())?;
+    Ok(number(first)?..number(end)?)
 }
 
 /// Compares every part that is asked for, to the first difference.
