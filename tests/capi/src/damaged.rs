@@ -282,25 +282,8 @@ impl Trials {
             memory.set_tables(false);
         }
         assert!(memory.holds(tables), "a look-up wrote");
-        let count = points.len() / 2;
-        let answer = match first {
-            Ok(None) => -1,
-            Ok(Some(place)) => {
-                assert!(place < count);
-                0
-            }
-            Err(number) => number as i64,
-        };
-        let due = if !is_state(*state) {
-            15
-        } else if count > MOST_POINTS {
-            4
-        } else if points.len() % 2 == 1 {
-            3
-        } else {
-            0
-        };
-        match due {
+        let answer = list_number(first, points.len() / 2);
+        match due_list(*state, points.len()) {
             0 => assert!([-1, 0, 15].contains(&answer), "{answer}"),
             due => assert_eq!(answer, due),
         }
@@ -328,6 +311,10 @@ impl Trials {
             assert_eq!(corrected.state, *state);
             assert!(memory.holds(tables), "a refusal wrote");
         }
+        assert!(
+            memory.holds_shown(tables, *call),
+            "what is shown was written"
+        );
         let name = match call {
             Call::Move { .. } => "move",
             Call::Undo => "undo",
@@ -433,6 +420,14 @@ impl Memory {
             && self.undo.as_slice() == tables.undo
     }
 
+    /// Whether the tables that a correction only reads are as they were held.
+    fn holds_shown(&self, tables: &Tables, call: Call) -> bool {
+        self.rings.as_slice() == tables.rings
+            && self.parts.as_slice() == tables.parts
+            && self.edges.as_slice() == tables.edges
+            && (call != Call::Undo || self.undo.as_slice() == tables.undo)
+    }
+
     /// Whether the plan handed in is as it was held.
     fn holds_plan(&self, plan: &Plan) -> bool {
         self.coordinates.as_slice() == plan.coordinates
@@ -502,6 +497,31 @@ impl Memory {
 /// Whether six numbers are a state's.
 fn is_state(state: State) -> bool {
     state.kind <= 1 && state.out_of_range <= 1
+}
+
+/// An answer to a list of so many points as a number: 0 where a point is found, -1 where none is, or the refusal number.
+fn list_number(answer: Result<Option<usize>, u64>, points: usize) -> i64 {
+    match answer {
+        Ok(None) => -1,
+        Ok(Some(place)) => {
+            assert!(place < points, "{place} of {points} points");
+            0
+        }
+        Err(number) => number as i64,
+    }
+}
+
+/// The refusal number of a list of so many coordinates that needs no table, or 0: then it is answered or gets 15.
+fn due_list(state: State, coordinates: usize) -> i64 {
+    if !is_state(state) {
+        15
+    } else if coordinates / 2 > MOST_POINTS {
+        4
+    } else if coordinates % 2 == 1 {
+        3
+    } else {
+        0
+    }
 }
 
 /// The refusal number of a correction that needs no table, or 0: then it is accepted or gets 15.

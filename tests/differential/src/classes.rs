@@ -79,7 +79,7 @@ pub struct Tally {
 }
 
 impl Tally {
-    /// Counts a plan, and the replies of the original to points in range by their rays.
+    /// Counts a plan.
     pub fn add_plan(&mut self, plan: &Plan) {
         self.plans += 1;
         self.out_of_range += u64::from(!plan.in_range());
@@ -87,7 +87,7 @@ impl Tally {
         self.above_64_rings += u64::from(plan.ring_lengths.len() > 64);
     }
 
-    /// Counts replies to points of a plan.
+    /// Counts replies to points of a plan, those in range by their rays.
     pub fn add_replies(&mut self, plan: &Plan, queries: &[Query], replies: &[u8]) {
         self.replies += replies.len() as u64;
         if !plan.in_range() {

@@ -2,10 +2,10 @@
 
 use capi::prepared::Prepared;
 use plans::plan::{GRID_LIMIT, Plan, Query};
-use polyclip::{Geometry, Location, Point, Polygon, Ring};
+use polyclip::{Geometry, Location, Point, PolyNode, PolyTree, Polygon, Ring};
 use std::panic;
 
-/// Documents 01's P12: the second corner is one beyond the range.
+/// Document 01's P12: the second corner is one beyond the range.
 const BEYOND: [(i64, i64); 3] = [(0, 0), (GRID_LIMIT + 1, 0), (0, GRID_LIMIT)];
 
 const SQUARE: [(i64, i64); 4] = [(0, 0), (10, 0), (10, 10), (0, 10)];
@@ -57,6 +57,13 @@ fn the_first_point_of_many_empty_polygons() {
     let fewer = original.first_not_outside(&asked[1..]);
     assert_eq!(fewer, None, "one point less is asked without boxes");
     if let Some(found) = in_this_build(|| original.first_not_outside(&asked)) {
+        assert_eq!(found, None);
+    }
+    let tree = PolyTree {
+        nodes: vec![PolyNode::default(); polygons],
+        roots: Vec::new(),
+    };
+    if let Some(found) = in_this_build(|| tree.first_not_outside(&asked)) {
         assert_eq!(found, None);
     }
     let ours = Prepared::new(&Plan::list(&vec![vec![Vec::new()]; polygons]));

@@ -78,35 +78,35 @@ fn an_engine_that_is_wrong_below_far_corners() {
     assert!(query.y.abs() <= 1 && y.abs() <= 1, "{smallest:?}");
 }
 
-#[test]
-fn an_engine_that_loses_an_undo_below_another_corner() {
-    // Takes the second undo in a row for done where the two moves were of different corners.
-    let loses = |session: &Session| {
-        let Case { plan, .. } = &session.case;
-        let mut model = Model::new(plan.clone(), session.undo_rows);
-        let (mut moved, mut undone) = (Vec::new(), None);
-        for &call in &session.calls {
-            if model.call(call).is_err() {
-                continue;
+/// Whether two moves of different corners are undone one after the other.
+fn undoes_two_corners(session: &Session) -> bool {
+    let mut model = Model::new(session.case.plan.clone(), session.undo_rows);
+    let (mut moved, mut undone) = (Vec::new(), None);
+    for &call in &session.calls {
+        if model.call(call).is_err() {
+            continue;
+        }
+        match call {
+            Call::Move { corner, .. } => {
+                moved.push(corner);
+                undone = None;
             }
-            match call {
-                Call::Move { corner, .. } => {
-                    moved.push(corner);
-                    undone = None;
+            Call::Undo => {
+                let corner = moved.pop();
+                if undone.is_some() && undone != corner {
+                    return true;
                 }
-                Call::Undo => {
-                    let corner = moved.pop();
-                    if undone.is_some() && undone != corner {
-                        return true;
-                    }
-                    undone = corner;
-                }
+                undone = corner;
             }
         }
-        false
-    };
+    }
+    false
+}
+
+#[test]
+fn an_engine_that_loses_the_second_undo_of_another_corner() {
     let generated = (0..200).map(|number| sessions::session(SEED, number, SIZE, 40, 8));
-    let smallest = smallest(generated, loses);
+    let smallest = smallest(generated, undoes_two_corners);
     let Case { plan, queries } = &smallest.case;
     assert_eq!(queries.len(), 0);
     assert_eq!(plan.coordinates.len() / 2, 2, "{smallest:?}");
