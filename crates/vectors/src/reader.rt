@@ -1,5 +1,6 @@
 // Decimal numbers from standard input, through a buffer that is lent.
 ghost use Rattle.vectors.specs.Counts.{Within};
+use geom::Point;
 use libc::STDIN_FILENO;
 
 /// Where the reader stands: the buffer's next byte, how many bytes the buffer holds, and whether the number read last ended its line.
@@ -227,6 +228,43 @@ pub(crate) fn read_numbers(buffer: &mut [u8], reader: Reader, list: &mut [i64]) 
             return List::Malformed;
         };
         list[i] = value;
+        at = after;
+        i += 1;
+    }
+    List::Read(at)
+}
+
+// The sum of two numbers.
+enum Sum {
+    Is(i64),
+    Malformed,
+}
+
+// The sum of a pair's two numbers, which are in range, so that it does not wrap.
+fn sum_of(pair: Point) -> Sum {
+    if pair.in_range() {
+        return Sum::Is(pair.x + pair.y);
+    }
+    Sum::Malformed
+}
+
+/// Coordinates of the line, as many as the list takes, that are stored as steps: each is added to the one two places before it, the
+/// first two to 0.
+pub(crate) fn read_steps(buffer: &mut [u8], reader: Reader, list: &mut [i64]) -> List {
+    let mut at = reader;
+    let mut before = 0;
+    let mut last = 0;
+    let mut i = 0;
+    while i < list.len() {
+        let Number::Is(step, after) = read_number(buffer, at) else {
+            return List::Malformed;
+        };
+        let Sum::Is(value) = sum_of(Point { x: before, y: step }) else {
+            return List::Malformed;
+        };
+        list[i] = value;
+        before = last;
+        last = value;
         at = after;
         i += 1;
     }

@@ -1,5 +1,6 @@
-// One line of the stored replies: a plan, its queries, and for each query whether the reply agrees with the stored one
-// (tests/differential/STORED.md). Each part of the plan is read into an array of its own and lent to the rest.
+// One line of the stored replies: a plan, its queries, and for each query whether the replies agree with the stored one
+// (tests/differential/STORED.md). Each part of the plan is read into an array of its own and lent to the rest. The plan is prepared once,
+// and each point looked up ring by ring in the plan as it was read and through the boxes.
 ghost use mathlib.Core.Path.{_≡_};
 ghost use lib.ListN.{length};
 use crate::reader::Count;
@@ -12,16 +13,34 @@ use crate::reader::read_count;
 use crate::reader::read_counts;
 use crate::reader::read_number;
 use crate::reader::read_numbers;
+use crate::reader::read_steps;
 use crate::report::Tally;
 use geom::Point;
+use prepare::Preparing;
+use prepare::prepare;
 use rules::Kind;
 use rules::Reply;
+use rules::State;
 
 // The most coordinates of a plan.
-const MAX_COORDINATES: usize = 1024;
+const MAX_COORDINATES: usize = 8192;
 
-// The most rings, the most polygons and the most queries of a plan.
-const MAX_PARTS: usize = 64;
+// The most corners, and the nodes of as many edges.
+const MAX_CORNERS: usize = 4096;
+
+const MAX_NODES: usize = 1023;
+
+// The most rings and the most polygons of a plan.
+const MAX_PARTS: usize = 512;
+
+// The most queries of a plan.
+const MAX_QUERIES: usize = 64;
+
+// How coordinates are stored: each as it is, or as the step from the corner before.
+enum Form {
+    Plain,
+    Steps,
+}
 
 /// What a line was: a plan whose replies were compared, or the closing line, with nothing after it.
 pub enum Line {
@@ -85,8 +104,8 @@ fn is_reply(reply: Reply, stored: usize) -> bool {
     }
 }
 
-// Whether the query's reply agrees with the stored one.
-fn agrees(
+// Whether the reply ring by ring, in the plan as it was read, is the stored one.
+fn agrees_by_rings(
     kind: Kind,
     coordinates: &[i64],
     lengths: &[usize],
@@ -107,6 +126,40 @@ fn agrees(
     }
 }
 
+// Whether the reply through the boxes is the stored one.
+fn agrees_by_boxes(
+    state: State,
+    corners: &[i64],
+    rings: &[usize],
+    polygons: &[usize],
+    boxes: &[[i64; 4]],
+    parts: &[[usize; 3]],
+    edges: &[usize],
+    query: Query,
+) -> bool {
+    let p = query.p;
+    if query.doubled {
+        is_reply(
+            prepared::locate::locate_doubled(
+                state,
+                corners,
+                rings,
+                polygons,
+                boxes,
+                parts,
+                edges,
+                p,
+            ),
+            query.reply,
+        )
+    } else {
+        is_reply(
+            prepared::locate::locate(state, corners, rings, polygons, boxes, parts, edges, p),
+            query.reply,
+        )
+    }
+}
+
 // The queries of a plan, to the end of its line.
 fn read_queries(
     buffer: &mut [u8],
@@ -116,8 +169,15 @@ fn read_queries(
     coordinates: &[i64],
     lengths: &[usize],
     counts: &[usize],
+    state: State,
+    corners: &[i64],
+    rings: &[usize],
+    polygons: &[usize],
+    boxes: &[[i64; 4]],
+    parts: &[[usize; 3]],
+    edges: &[usize],
 ) -> Line {
-    let Count::Is(queries, start) = read_count(buffer, reader, MAX_PARTS) else {
+    let Count::Is(queries, start) = read_count(buffer, reader, MAX_QUERIES) else {
         return Line::Malformed;
     };
     let mut at = start;
@@ -128,7 +188,9 @@ fn read_queries(
             return Line::Malformed;
         };
         i += 1;
-        sum = sum.with_reply(agrees(kind, coordinates, lengths, counts, query), i as u64);
+        let one = agrees_by_rings(kind, coordinates, lengths, counts, query);
+        let other = agrees_by_boxes(state, corners, rings, polygons, boxes, parts, edges, query);
+        sum = sum.with_reply(one & other, i as u64);
         at = after;
     }
     if !at.line_over {
@@ -137,16 +199,64 @@ fn read_queries(
     Line::Plan(at, sum.with_plan())
 }
 
+// A plan that was read, prepared, and its queries. No stored plan is refused.
+fn prepared_queries(
+    buffer: &mut [u8],
+    reader: Reader,
+    tally: Tally,
+    kind: Kind,
+    coordinates: &[i64],
+    lengths: &[usize],
+    counts: &[usize],
+) -> Line {
+    let mut corners = [0i64; MAX_COORDINATES];
+    let mut rings = [0usize; MAX_PARTS];
+    let mut polygons = [0usize; MAX_PARTS];
+    let mut boxes = [[0i64; 4]; MAX_NODES];
+    let mut parts = [[0usize; 3]; MAX_NODES];
+    let mut edges = [0usize; MAX_CORNERS];
+    match prepare(
+        kind,
+        coordinates,
+        lengths,
+        counts,
+        &mut corners,
+        &mut rings,
+        &mut polygons,
+        &mut boxes,
+        &mut parts,
+        &mut edges,
+    ) {
+        Preparing::Refused(_) => Line::Malformed,
+        Preparing::Ready(state, _) => read_queries(
+            buffer,
+            reader,
+            tally,
+            kind,
+            coordinates,
+            lengths,
+            counts,
+            state,
+            &corners,
+            &rings,
+            &polygons,
+            &boxes,
+            &parts,
+            &edges,
+        ),
+    }
+}
+
 // Room for the coordinates. Its length is all that a caller has to know of it.
 fn no_coordinates() -> [i64; MAX_COORDINATES]
-    ensures { λ r. ⌜ length r ≡ 1024 ⌝ }
+    ensures { λ r. ⌜ length r ≡ 8192 ⌝ }
 {
     [0; MAX_COORDINATES]
 }
 
 // Room for ring lengths or ring counts.
 fn no_parts() -> [usize; MAX_PARTS]
-    ensures { λ r. ⌜ length r ≡ 64 ⌝ }
+    ensures { λ r. ⌜ length r ≡ 512 ⌝ }
 {
     [0; MAX_PARTS]
 }
@@ -168,7 +278,7 @@ fn read_polygons(
     let List::Read(after) = read_counts(buffer, at, MAX_PARTS, table) else {
         return Line::Malformed;
     };
-    read_queries(buffer, after, tally, kind, coordinates, lengths, table)
+    prepared_queries(buffer, after, tally, kind, coordinates, lengths, table)
 }
 
 // A plan from its ring lengths on.
@@ -190,14 +300,22 @@ fn read_rings(
     read_polygons(buffer, after, tally, kind, coordinates, table)
 }
 
+// As many coordinates as the list takes, in the form in which they are stored.
+fn read_coordinates(buffer: &mut [u8], reader: Reader, form: Form, list: &mut [i64]) -> List {
+    match form {
+        Form::Plain => read_numbers(buffer, reader, list),
+        Form::Steps => read_steps(buffer, reader, list),
+    }
+}
+
 // A plan from its coordinates on.
-fn read_plan(buffer: &mut [u8], reader: Reader, tally: Tally, kind: Kind) -> Line {
+fn read_plan(buffer: &mut [u8], reader: Reader, tally: Tally, kind: Kind, form: Form) -> Line {
     let mut coordinates = no_coordinates();
     let Count::Is(numbers, at) = read_count(buffer, reader, MAX_COORDINATES) else {
         return Line::Malformed;
     };
     let list = &mut coordinates[..numbers];
-    let List::Read(after) = read_numbers(buffer, at, list) else {
+    let List::Read(after) = read_coordinates(buffer, at, form, list) else {
         return Line::Malformed;
     };
     read_rings(buffer, after, tally, kind, list)
@@ -223,8 +341,10 @@ pub(crate) fn read_line(buffer: &mut [u8], reader: Reader, tally: Tally) -> Line
         return Line::Malformed;
     };
     match kind {
-        0 => read_plan(buffer, after, tally, Kind::Polygons),
-        1 => read_plan(buffer, after, tally, Kind::Tree),
+        0 => read_plan(buffer, after, tally, Kind::Polygons, Form::Plain),
+        1 => read_plan(buffer, after, tally, Kind::Tree, Form::Plain),
+        2 => read_plan(buffer, after, tally, Kind::Polygons, Form::Steps),
+        3 => read_plan(buffer, after, tally, Kind::Tree, Form::Steps),
         -1 => read_closing(buffer, after, tally),
         _ => Line::Malformed,
     }

@@ -2,13 +2,19 @@
 //!
 //! [`entry`] calls the library. [`expected`] gives the answers that are due, by a [`reader`] of plan
 //! text written from item 10 alone and by the rules of [`plans`]. [`writer`] makes texts of plans,
-//! [`damage`] breaks them, and [`examples`] holds two of them. [`prepared`] calls the library on tables that
-//! it is lent, and [`soundness`] holds those tables to items 5 and 9.
+//! [`damage`] breaks them, and [`examples`] holds two of them. [`exports`] calls the library on tables that
+//! it is lent, [`prepared`] keeps such tables, and [`soundness`] holds them to items 5 and 9.
+//! [`corrections`] says what a correction may do to them. [`damaged`] hands damaged input to every call, in
+//! memory that [`guard`] keeps.
 
+pub mod corrections;
 pub mod damage;
+pub mod damaged;
 pub mod entry;
 pub mod examples;
 pub mod expected;
+pub mod exports;
+pub mod guard;
 pub mod prepared;
 pub mod reader;
 pub mod soundness;

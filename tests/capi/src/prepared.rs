@@ -1,63 +1,8 @@
-//! Prepared plans, as the static library exports them: a state of six numbers and tables that the caller lends.
+//! Prepared plans: the exports over tables that are kept in lists.
 
-use plans::plan::{Mode, Plan, Query};
-
-/// The numbers that a caller keeps of a prepared plan beside its tables.
-#[repr(C)]
-#[derive(Clone, Copy, Debug, PartialEq, Eq)]
-pub struct State {
-    /// 0 a list, 1 a tree.
-    pub kind: u64,
-    /// 1 where a corner is out of range, else 0.
-    pub out_of_range: u64,
-    pub corners: u64,
-    pub rings: u64,
-    pub polygons: u64,
-    pub undo_depth: u64,
-}
-
-/// What preparing answers: the refusal number or 0, the table that refusal 11 names or 0, the number of nodes, and the state.
-#[repr(C)]
-#[derive(Clone, Copy, Debug, PartialEq, Eq)]
-pub struct Preparing {
-    pub refusal: u64,
-    pub table: u64,
-    pub nodes: u64,
-    pub state: State,
-}
-
-/// What a list of points is answered: the refusal number or 0, 1 where a point is not outside, and its place.
-#[repr(C)]
-#[derive(Clone, Copy, Debug, PartialEq, Eq)]
-pub struct First {
-    pub refusal: u64,
-    pub found: u64,
-    pub place: u64,
-}
-
-impl First {
-    /// The place of the first point that is not outside, if there is one, or the refusal number.
-    pub fn answer(self) -> Result<Option<usize>, u64> {
-        match self {
-            First {
-                refusal: 0,
-                found: 0,
-                place: 0,
-            } => Ok(None),
-            First {
-                refusal: 0,
-                found: 1,
-                place,
-            } => Ok(Some(place as usize)),
-            First {
-                refusal,
-                found: 0,
-                place: 0,
-            } => Err(refusal),
-            other => panic!("no answer: {other:?}"),
-        }
-    }
-}
+use crate::exports::{self, Correctable, Corrected, Handed, Lent, Preparing, Shown, State};
+use plans::model::Call;
+use plans::plan::{Plan, Query};
 
 /// Tables to lend.
 #[derive(Clone, Debug, PartialEq, Eq)]
@@ -68,112 +13,7 @@ pub struct Tables {
     pub boxes: Vec<[i64; 4]>,
     pub parts: Vec<[usize; 3]>,
     pub edges: Vec<usize>,
-}
-
-/// A table as the library takes it: where it starts, and how many entries it has.
-type Start<T> = *const T;
-type StartMut<T> = *mut T;
-
-unsafe extern "C" {
-    fn findspot_prepare(
-        kind: u64,
-        coordinates: Start<i64>,
-        coordinates_length: usize,
-        lengths: Start<usize>,
-        lengths_length: usize,
-        counts: Start<usize>,
-        counts_length: usize,
-        corners: StartMut<i64>,
-        corners_length: usize,
-        rings: StartMut<usize>,
-        rings_length: usize,
-        polygons: StartMut<usize>,
-        polygons_length: usize,
-        boxes: StartMut<[i64; 4]>,
-        boxes_length: usize,
-        parts: StartMut<[usize; 3]>,
-        parts_length: usize,
-        edges: StartMut<usize>,
-        edges_length: usize,
-    ) -> Preparing;
-
-    fn findspot_locate(
-        state: State,
-        corners: Start<i64>,
-        corners_length: usize,
-        rings: Start<usize>,
-        rings_length: usize,
-        polygons: Start<usize>,
-        polygons_length: usize,
-        boxes: Start<[i64; 4]>,
-        boxes_length: usize,
-        parts: Start<[usize; 3]>,
-        parts_length: usize,
-        edges: Start<usize>,
-        edges_length: usize,
-        x: i64,
-        y: i64,
-    ) -> i64;
-
-    fn findspot_locate_doubled(
-        state: State,
-        corners: Start<i64>,
-        corners_length: usize,
-        rings: Start<usize>,
-        rings_length: usize,
-        polygons: Start<usize>,
-        polygons_length: usize,
-        boxes: Start<[i64; 4]>,
-        boxes_length: usize,
-        parts: Start<[usize; 3]>,
-        parts_length: usize,
-        edges: Start<usize>,
-        edges_length: usize,
-        x: i64,
-        y: i64,
-    ) -> i64;
-
-    fn findspot_locate_by_rings(
-        state: State,
-        corners: Start<i64>,
-        corners_length: usize,
-        rings: Start<usize>,
-        rings_length: usize,
-        polygons: Start<usize>,
-        polygons_length: usize,
-        x: i64,
-        y: i64,
-    ) -> i64;
-
-    fn findspot_locate_doubled_by_rings(
-        state: State,
-        corners: Start<i64>,
-        corners_length: usize,
-        rings: Start<usize>,
-        rings_length: usize,
-        polygons: Start<usize>,
-        polygons_length: usize,
-        x: i64,
-        y: i64,
-    ) -> i64;
-
-    fn findspot_first_not_outside(
-        state: State,
-        corners: Start<i64>,
-        corners_length: usize,
-        rings: Start<usize>,
-        rings_length: usize,
-        polygons: Start<usize>,
-        polygons_length: usize,
-        boxes: Start<[i64; 4]>,
-        boxes_length: usize,
-        parts: Start<[usize; 3]>,
-        parts_length: usize,
-        edges: Start<usize>,
-        edges_length: usize,
-        points: Start<i64>,
-        points_length: usize,
-    ) -> First;
+    pub undo: Vec<[i64; 3]>,
 }
 
 /// Document 01's N(n).
@@ -187,7 +27,7 @@ pub fn node_count(edges: usize) -> usize {
 }
 
 impl Tables {
-    /// Tables just long enough for a plan, filled with numbers that are no plan's.
+    /// Tables just long enough for a plan, filled with numbers that are no plan's, and no row for undo records.
     pub fn for_plan(plan: &Plan) -> Tables {
         let edges = plan.coordinates.len() / 2;
         let nodes = node_count(edges);
@@ -198,6 +38,7 @@ impl Tables {
             boxes: vec![[i64::MIN; 4]; nodes],
             parts: vec![[usize::MAX; 3]; nodes],
             edges: vec![usize::MAX; edges],
+            undo: Vec::new(),
         }
     }
 
@@ -208,109 +49,66 @@ impl Tables {
 
     /// The same with any number for the kind.
     pub fn prepare_as(&mut self, kind: u64, plan: &Plan) -> Preparing {
-        // SAFETY: each pointer and length are those of one list, which outlives the call; no two of them overlap.
-        unsafe {
-            findspot_prepare(
-                kind,
-                plan.coordinates.as_ptr(),
-                plan.coordinates.len(),
-                plan.ring_lengths.as_ptr(),
-                plan.ring_lengths.len(),
-                plan.ring_counts.as_ptr(),
-                plan.ring_counts.len(),
-                self.corners.as_mut_ptr(),
-                self.corners.len(),
-                self.rings.as_mut_ptr(),
-                self.rings.len(),
-                self.polygons.as_mut_ptr(),
-                self.polygons.len(),
-                self.boxes.as_mut_ptr(),
-                self.boxes.len(),
-                self.parts.as_mut_ptr(),
-                self.parts.len(),
-                self.edges.as_mut_ptr(),
-                self.edges.len(),
-            )
+        let handed = Handed {
+            kind,
+            coordinates: &plan.coordinates,
+            lengths: &plan.ring_lengths,
+            counts: &plan.ring_counts,
+        };
+        let lent = Lent {
+            corners: &mut self.corners,
+            rings: &mut self.rings,
+            polygons: &mut self.polygons,
+            boxes: &mut self.boxes,
+            parts: &mut self.parts,
+            edges: &mut self.edges,
+        };
+        exports::prepare(handed, lent)
+    }
+
+    /// The tables as a look-up is shown them.
+    pub fn shown(&self) -> Shown<'_> {
+        Shown {
+            corners: &self.corners,
+            rings: &self.rings,
+            polygons: &self.polygons,
+            boxes: &self.boxes,
+            parts: &self.parts,
+            edges: &self.edges,
         }
     }
 
     /// The answer through the boxes: a place's number, or minus the refusal number.
     pub fn locate(&self, state: State, query: Query) -> i64 {
-        let call = match query.mode {
-            Mode::Grid => findspot_locate,
-            Mode::Doubled => findspot_locate_doubled,
-        };
-        // SAFETY: each pointer and length are those of one list, which outlives the call and is only read.
-        unsafe {
-            call(
-                state,
-                self.corners.as_ptr(),
-                self.corners.len(),
-                self.rings.as_ptr(),
-                self.rings.len(),
-                self.polygons.as_ptr(),
-                self.polygons.len(),
-                self.boxes.as_ptr(),
-                self.boxes.len(),
-                self.parts.as_ptr(),
-                self.parts.len(),
-                self.edges.as_ptr(),
-                self.edges.len(),
-                query.x,
-                query.y,
-            )
-        }
+        exports::locate(state, self.shown(), query)
     }
 
     /// The answer ring by ring: a place's number, or minus the refusal number.
     pub fn locate_by_rings(&self, state: State, query: Query) -> i64 {
-        let call = match query.mode {
-            Mode::Grid => findspot_locate_by_rings,
-            Mode::Doubled => findspot_locate_doubled_by_rings,
-        };
-        // SAFETY: each pointer and length are those of one list, which outlives the call and is only read.
-        unsafe {
-            call(
-                state,
-                self.corners.as_ptr(),
-                self.corners.len(),
-                self.rings.as_ptr(),
-                self.rings.len(),
-                self.polygons.as_ptr(),
-                self.polygons.len(),
-                query.x,
-                query.y,
-            )
-        }
+        exports::locate_by_rings(state, self.shown(), query)
     }
 
     /// The first point, of a list x, y, x, y, .., that is not outside.
     pub fn first_not_outside(&self, state: State, points: &[i64]) -> Result<Option<usize>, u64> {
-        // SAFETY: each pointer and length are those of one list, which outlives the call and is only read.
-        unsafe {
-            findspot_first_not_outside(
-                state,
-                self.corners.as_ptr(),
-                self.corners.len(),
-                self.rings.as_ptr(),
-                self.rings.len(),
-                self.polygons.as_ptr(),
-                self.polygons.len(),
-                self.boxes.as_ptr(),
-                self.boxes.len(),
-                self.parts.as_ptr(),
-                self.parts.len(),
-                self.edges.as_ptr(),
-                self.edges.len(),
-                points.as_ptr(),
-                points.len(),
-            )
-            .answer()
-        }
+        exports::first_not_outside(state, self.shown(), points).answer()
+    }
+
+    /// Makes a correction in these tables.
+    pub fn correct(&mut self, state: State, call: Call) -> Corrected {
+        let tables = Correctable {
+            corners: &mut self.corners,
+            rings: &self.rings,
+            boxes: &mut self.boxes,
+            parts: &self.parts,
+            edges: &self.edges,
+            undo: &mut self.undo,
+        };
+        exports::correct(state, tables, call)
     }
 }
 
 /// A plan with its tables, prepared.
+#[derive(Clone, Debug, PartialEq, Eq)]
 pub struct Prepared {
     pub state: State,
     pub tables: Tables,
@@ -320,14 +118,23 @@ pub struct Prepared {
 impl Prepared {
     /// Prepares a plan that is refused by no number.
     pub fn new(plan: &Plan) -> Prepared {
+        Prepared::with_undo(plan, 0).expect("the plan is accepted")
+    }
+
+    /// Prepares a plan in tables just long enough, with so many rows for undo records, filled with numbers that are no record's. Gives
+    /// the answer where the plan is refused.
+    pub fn with_undo(plan: &Plan, rows: usize) -> Result<Prepared, Preparing> {
         let mut tables = Tables::for_plan(plan);
+        tables.undo = vec![[i64::MIN; 3]; rows];
         let preparing = tables.prepare(plan);
-        assert!(preparing.refusal == 0, "refused: {preparing:?}");
-        Prepared {
+        if preparing.refusal > 0 {
+            return Err(preparing);
+        }
+        Ok(Prepared {
             state: preparing.state,
             tables,
             nodes: preparing.nodes as usize,
-        }
+        })
     }
 
     /// The answer through the boxes.
@@ -343,5 +150,12 @@ impl Prepared {
     /// The first of the points that is not outside.
     pub fn first_not_outside(&self, points: &[i64]) -> Result<Option<usize>, u64> {
         self.tables.first_not_outside(self.state, points)
+    }
+
+    /// Makes a correction and keeps the state that it gives, or gives the number by which it is refused.
+    pub fn correct(&mut self, call: Call) -> Result<(), u64> {
+        let Corrected { refusal, state } = self.tables.correct(self.state, call);
+        self.state = state;
+        if refusal == 0 { Ok(()) } else { Err(refusal) }
     }
 }

@@ -1,7 +1,7 @@
 //! Prepared plans through the exports: document 01's cases, the tables, and the look-ups through the boxes beside those ring by ring.
 
 use capi::prepared::{Prepared, node_count};
-use capi::soundness::assert_sound;
+use capi::soundness::{Cuts, check};
 use plans::generate::{self, SEED, Size};
 use plans::named::named_cases;
 use plans::plan::{Mode, Plan, Query};
@@ -74,7 +74,7 @@ fn prepared_tables_are_sound_and_the_state_counts() {
         assert_eq!(state.undo_depth, 0);
         assert_eq!(state.out_of_range, u64::from(!plan.in_range()));
         if plan.in_range() {
-            assert_sound(&plan, &prepared);
+            assert_eq!(check(&plan, &prepared, Cuts::AsPrepared), Ok(()));
         } else {
             assert_unindexed(&prepared);
         }

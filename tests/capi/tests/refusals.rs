@@ -1,10 +1,9 @@
 //! Refusals of preparing, look-ups and lists of points: each number under its condition, in order, and nothing written.
 
-use capi::prepared::{Prepared, State, Tables};
-use plans::generate::{self, SEED, Size};
+use capi::exports::State;
+use capi::prepared::{Prepared, Tables};
 use plans::named::named_cases;
 use plans::plan::{GRID_LIMIT, Kind, Plan, Query};
-use plans::random::Random;
 
 const CORNERS: usize = 1_048_576;
 const RINGS: usize = 65_536;
@@ -128,6 +127,7 @@ fn empty() -> Tables {
         boxes: Vec::new(),
         parts: Vec::new(),
         edges: Vec::new(),
+        undo: Vec::new(),
     }
 }
 
@@ -244,69 +244,6 @@ fn tables_shorter_than_the_state_says_get_15() {
             tables.locate(state, Query::doubled(2 * GRID_LIMIT + 1, 5)),
             0
         );
-    }
-}
-
-/// Numbers that lead far outside any table, or just outside it.
-const EXTREMES: [usize; 8] = [0, 1, 7, 8, 9, 1 << 20, usize::MAX - 1, usize::MAX];
-
-/// Whatever stands in tables and state, an answer comes, and it is a place or 15.
-#[test]
-fn damaged_tables_get_a_place_or_15() {
-    let size = Size {
-        corners: 200,
-        rings: 40,
-    };
-    let mut refusals = 0;
-    for number in 0..1_000 {
-        let case = generate::case(SEED, number, size, 8);
-        let prepared = Prepared::new(&case.plan);
-        let mut random = Random::new(SEED, number as u64);
-        for _ in 0..10 {
-            let (mut tables, mut state) = (prepared.tables.clone(), prepared.state);
-            for _ in 0..1 + random.below(3) {
-                damage(&mut random, &mut tables, &mut state);
-            }
-            for &query in &case.queries {
-                let answer = tables.locate(state, query);
-                assert!([0, 1, 2, -15].contains(&answer), "{answer}");
-                assert!([0, 1, 2, -15].contains(&tables.locate_by_rings(state, query)));
-                let first = tables.first_not_outside(state, &[query.x, query.y]);
-                assert!(
-                    [Ok(None), Ok(Some(0)), Err(15)].contains(&first),
-                    "{first:?}"
-                );
-                refusals += usize::from(answer == -15);
-            }
-        }
-    }
-    assert!(refusals > 1_000, "{refusals} refusals");
-}
-
-/// Puts an extreme number into one field of the tables or of the state.
-fn damage(random: &mut Random, tables: &mut Tables, state: &mut State) {
-    let number = random.pick(&EXTREMES);
-    let coordinate = random.pick(&[i64::MIN, i64::MAX, -1, 0, GRID_LIMIT + 1]);
-    let column = random.below(4);
-    match random.below(9) {
-        0 => put(random, &mut tables.corners, coordinate),
-        1 => put(random, &mut tables.rings, number),
-        2 => put(random, &mut tables.polygons, number),
-        3 => change(random, &mut tables.boxes, |row| row[column] = coordinate),
-        4 | 5 => change(random, &mut tables.parts, |row| row[column % 3] = number),
-        6 => put(random, &mut tables.edges, number),
-        7 => state.corners = number as u64,
-        _ => state.rings = number as u64,
-    }
-}
-
-fn put<T>(random: &mut Random, table: &mut [T], entry: T) {
-    change(random, table, |place| *place = entry);
-}
-
-fn change<T>(random: &mut Random, table: &mut [T], change: impl FnOnce(&mut T)) {
-    if !table.is_empty() {
-        change(&mut table[random.below(table.len())]);
     }
 }
 

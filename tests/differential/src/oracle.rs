@@ -1,22 +1,71 @@
 //! The replies of the original Rust.
 
-use plans::plan::{DOUBLED_LIMIT, Kind, Mode, Plan, Query, Ring, within};
-use polyclip::{Geometry, Location, Point, PolyNode, PolyTree, Polygon, Preparable, Prepared};
+use plans::plan::{Kind, Mode, Plan, Query, Ring};
+use polyclip::{Geometry as _, Location, Point, PolyNode, PolyTree, Polygon, Preparable, Prepared};
 
 /// The original's replies to points asked of one plan, which is prepared once:
 /// 0 outside, 1 inside, 2 boundary.
 pub fn replies(plan: &Plan, queries: &[Query]) -> Vec<u8> {
-    match plan.kind {
-        Kind::List => replies_of(&list(plan), plan, queries),
-        Kind::Tree => replies_of(&tree(plan), plan, queries),
-    }
+    Original::of(plan).replies(queries)
 }
 
-/// The original's place of the first point, in a list of polygons, that is not outside.
-pub fn first_not_outside(plan: &Plan, points: &[(i64, i64)]) -> Option<usize> {
-    let points: Vec<Point> = points.iter().map(|&(x, y)| Point::new(x, y)).collect();
-    let found = list(plan).first_not_outside(&points)?;
-    points.iter().position(|&point| point == found)
+/// A plan as the original has it.
+pub struct Original {
+    geometry: Geometry,
+    in_range: bool,
+}
+
+enum Geometry {
+    List(Vec<Polygon>),
+    Tree(PolyTree),
+}
+
+impl Original {
+    /// The original's list or tree for a plan.
+    pub fn of(plan: &Plan) -> Original {
+        Original {
+            geometry: match plan.kind {
+                Kind::List => Geometry::List(list(plan)),
+                Kind::Tree => Geometry::Tree(tree(plan)),
+            },
+            in_range: plan.in_range(),
+        }
+    }
+
+    /// The replies to points, by the geometry prepared.
+    pub fn replies(&self, queries: &[Query]) -> Vec<u8> {
+        match &self.geometry {
+            Geometry::List(list) => self.replies_of(list, queries),
+            Geometry::Tree(tree) => self.replies_of(tree, queries),
+        }
+    }
+
+    /// Prepares the geometry and asks every point of it.
+    fn replies_of<G: Preparable>(&self, geometry: &G, queries: &[Query]) -> Vec<u8> {
+        let prepared = Prepared::new(geometry);
+        let reply = |query: &Query| {
+            let point = Point::new(query.x, query.y);
+            number(match query.mode {
+                Mode::Grid => prepared.locate(point),
+                // It has no range test: document 01's range rule stands in front.
+                Mode::Doubled if self.in_range && query.in_range() => {
+                    prepared.locate_doubled(point)
+                }
+                Mode::Doubled => Location::Outside,
+            })
+        };
+        queries.iter().map(reply).collect()
+    }
+
+    /// The place of the first point that is not outside. The plan is in range.
+    pub fn first_not_outside(&self, points: &[(i64, i64)]) -> Option<usize> {
+        let points: Vec<Point> = points.iter().map(|&(x, y)| Point::new(x, y)).collect();
+        let found = match &self.geometry {
+            Geometry::List(list) => list.first_not_outside(&points),
+            Geometry::Tree(tree) => tree.first_not_outside(&points),
+        }?;
+        points.iter().position(|&point| point == found)
+    }
 }
 
 /// The plan as the original's list of polygons.
@@ -43,29 +92,6 @@ fn tree(plan: &Plan) -> PolyTree {
 
 fn ring(corners: &Ring) -> polyclip::Ring {
     corners.iter().map(|&(x, y)| Point::new(x, y)).collect()
-}
-
-/// Prepares the geometry of a plan and asks every point of it.
-fn replies_of<G: Preparable>(geometry: &G, plan: &Plan, queries: &[Query]) -> Vec<u8> {
-    let prepared = Prepared::new(geometry);
-    let plan_in_range = plan.in_range();
-    let reply = |query: &Query| {
-        number(match query.mode {
-            Mode::Grid => prepared.locate(Point::new(query.x, query.y)),
-            Mode::Doubled if plan_in_range => locate_doubled(&prepared, query.x, query.y),
-            Mode::Doubled => Location::Outside,
-        })
-    };
-    queries.iter().map(reply).collect()
-}
-
-/// `Prepared::locate_doubled`, which has no range test, behind document 01's range rule.
-fn locate_doubled<G: Preparable>(prepared: &Prepared<G>, x: i64, y: i64) -> Location {
-    if within(x, DOUBLED_LIMIT) && within(y, DOUBLED_LIMIT) {
-        prepared.locate_doubled(Point::new(x, y))
-    } else {
-        Location::Outside
-    }
 }
 
 /// The number that document 01 gives a reply.

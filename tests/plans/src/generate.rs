@@ -17,6 +17,7 @@ pub struct Size {
 }
 
 /// A plan and the points to ask of it.
+#[derive(Clone, Debug)]
 pub struct Case {
     pub plan: Plan,
     pub queries: Vec<Query>,
@@ -25,7 +26,7 @@ pub struct Case {
 type Family = fn(&mut Random, Size) -> Plan;
 
 /// Families of plans, taken in turn.
-const FAMILIES: [Family; 12] = [
+const FAMILIES: [Family; 14] = [
     single_ring,
     holed_polygon,
     overlapping_holes,
@@ -38,6 +39,8 @@ const FAMILIES: [Family; 12] = [
     tree_of_long_rings,
     many_polygons,
     tree_of_squares,
+    sparse,
+    deeply_nested,
 ];
 
 /// The case of a number, with that many points.
@@ -238,4 +241,43 @@ fn tree_of_squares(random: &mut Random, size: Size) -> Plan {
     };
     let rings: Vec<Ring> = (0..count).map(some_square).collect();
     Plan::tree(&rings)
+}
+
+/// Rings of which most are empty or have one corner or two, as a tree or as polygons of any number of them.
+fn sparse(random: &mut Random, _: Size) -> Plan {
+    let grid = some_grid(random);
+    let mut polygons: Vec<Polygon> = Vec::new();
+    for _ in 0..1 + random.below(12) {
+        let ring = if random.one_in(3) {
+            small_ring(random, grid)
+        } else {
+            flat_ring(random, grid)
+        };
+        match polygons.last_mut() {
+            Some(polygon) if random.one_in(2) => polygon.push(ring),
+            _ => polygons.push(vec![ring]),
+        }
+    }
+    if random.one_in(2) {
+        Plan::list(&polygons)
+    } else {
+        Plan::tree(&polygons.concat())
+    }
+}
+
+/// Squares inside each other, so that a ray meets most of the rings: as a tree, as polygons with a hole each, or in a heap.
+fn deeply_nested(random: &mut Random, size: Size) -> Plan {
+    let most = size.rings.min(size.corners / 4);
+    let count = (most - random.below(most / 2)) as i64;
+    let gap = random.between(0, 2);
+    let inset = |k: i64| square((k * gap, k * gap), 2 * (count - k) * gap.max(1));
+    let mut rings: Vec<Ring> = (0..count).map(inset).collect();
+    match random.below(3) {
+        0 => Plan::tree(&rings),
+        1 => Plan::list(&rings.chunks(2).map(<[Ring]>::to_vec).collect::<Vec<_>>()),
+        _ => {
+            random.shuffle(&mut rings);
+            Plan::list(&rings.into_iter().map(|ring| vec![ring]).collect::<Vec<_>>())
+        }
+    }
 }

@@ -133,4 +133,13 @@ impl Query {
         let mode = Mode::Doubled;
         Query { mode, x, y }
     }
+
+    /// Whether the point is in range on its grid.
+    pub fn in_range(&self) -> bool {
+        let limit = match self.mode {
+            Mode::Grid => GRID_LIMIT,
+            Mode::Doubled => DOUBLED_LIMIT,
+        };
+        within(self.x, limit) && within(self.y, limit)
+    }
 }

@@ -12,6 +12,11 @@ impl Random {
         Random { state }
     }
 
+    /// Any number of 64 bits.
+    pub fn any(&mut self) -> u64 {
+        self.next()
+    }
+
     fn next(&mut self) -> u64 {
         self.state = self.state.wrapping_add(0x9e37_79b9_7f4a_7c15);
         scramble(self.state)

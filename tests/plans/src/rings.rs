@@ -17,7 +17,7 @@ const FLAT: [Shape; 5] = [
     there_and_back,
 ];
 
-const SMALL: [Shape; 16] = [
+const SMALL: [Shape; 18] = [
     rectangle,
     rectangle,
     triangle,
@@ -30,6 +30,8 @@ const SMALL: [Shape; 16] = [
     two_loops,
     stuttering,
     crowded_sides,
+    spiked,
+    empty,
     repeated_corner,
     two_corners,
     collinear,
@@ -193,6 +195,16 @@ fn stuttering(random: &mut Random, grid: i64) -> Ring {
     let simple = simple_ring(random, grid);
     let repeat = |corner| vec![corner; 1 + random.below(3)];
     simple.into_iter().flat_map(repeat).collect()
+}
+
+/// A ring that runs out to a point and back at one or more of its corners.
+fn spiked(random: &mut Random, grid: i64) -> Ring {
+    let simple = simple_ring(random, grid);
+    let spike = |from| match random.one_in(2) {
+        true => vec![from, corner(random, grid), from],
+        false => vec![from],
+    };
+    simple.into_iter().flat_map(spike).collect()
 }
 
 /// A square with corners all along its sides.

@@ -32,8 +32,8 @@ array-borrow-prefix-coordinates c =
 slice-aggregate-list : tie.Need-slice-aggregate-list
 slice-aggregate-list c = sym (length-take-le _ _ (array-borrow-prefix-coordinates (c .before)))
 
-read-numbers-requires : tie.Need-read-numbers-requires
-read-numbers-requires c κs = search needs
+read-coordinates-requires : tie.Need-read-coordinates-requires
+read-coordinates-requires c κs = search needs
 
 enum-known-after : tie.Need-enum-known-after
 enum-known-after c = search needs
@@ -68,7 +68,7 @@ read-plan-spec =
     returns
     array-borrow-prefix-coordinates
     slice-aggregate-list
-    read-numbers-requires
+    read-coordinates-requires
     enum-known-after
     enum-told-2
     same-length-2

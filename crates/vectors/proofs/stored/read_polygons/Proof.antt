@@ -47,8 +47,8 @@ same-length-2 c = search needs
 returns-2 : tie.Need-returns-2
 returns-2 c = search needs
 
-read-queries-requires : tie.Need-read-queries-requires
-read-queries-requires c κs = search needs
+prepared-queries-requires : tie.Need-prepared-queries-requires
+prepared-queries-requires c κs = search needs
 
 same-length-3 : tie.Need-same-length-3
 same-length-3 c = search needs
@@ -73,6 +73,6 @@ read-polygons-spec =
     enum-told-2
     same-length-2
     returns-2
-    read-queries-requires
+    prepared-queries-requires
     same-length-3
     returns-3)

@@ -7,10 +7,10 @@ use Rattle.vectors.proofs.stored.read_queries.Statement.{statement}
 use Rattle.vectors.proofs.stored.read_queries.Tie as tie
 
 abbrev Inv-loop : tie.InvT-loop
-Inv-loop buffer₀ kind coordinates lengths counts queries at₀ sum₀ i₀ buffer at sum i = (i ≤ queries) × (length buffer ≡ length buffer₀)
+Inv-loop buffer₀ kind coordinates lengths counts state corners rings polygons boxes parts edges queries at₀ sum₀ i₀ buffer at sum i = (i ≤ queries) × (length buffer ≡ length buffer₀)
 
 abbrev μ-loop : tie.MeasureT-loop
-μ-loop buffer₀ kind coordinates lengths counts queries at₀ sum₀ i₀ buffer at sum i = queries - i
+μ-loop buffer₀ kind coordinates lengths counts state corners rings polygons boxes parts edges queries at₀ sum₀ i₀ buffer at sum i = queries - i
 
 read-count-requires : tie.Need-read-count-requires Inv-loop μ-loop
 read-count-requires c κs = search needs
@@ -48,8 +48,11 @@ returns-2 c = search needs
 add-i : tie.Need-add-i Inv-loop μ-loop
 add-i c = search needs
 
-agrees-requires : tie.Need-agrees-requires Inv-loop μ-loop
-agrees-requires c κs = search needs
+agrees-by-rings-requires : tie.Need-agrees-by-rings-requires Inv-loop μ-loop
+agrees-by-rings-requires c κs = search needs
+
+agrees-by-boxes-requires : tie.Need-agrees-by-boxes-requires Inv-loop μ-loop
+agrees-by-boxes-requires c κs = search needs
 
 with-reply-requires : tie.Need-with-reply-requires Inv-loop μ-loop
 with-reply-requires c κs = search needs
@@ -93,7 +96,8 @@ read-queries-spec =
     same-length-2
     returns-2
     add-i
-    agrees-requires
+    agrees-by-rings-requires
+    agrees-by-boxes-requires
     with-reply-requires
     loop-less
     loop-again

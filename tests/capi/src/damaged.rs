@@ -1,0 +1,768 @@
+//! Input of random and extreme numbers through every export: states, tables, plans handed in, undo records, lists of points and texts.
+//!
+//! Whatever it is, each call ends, reads and writes nothing beside what it is lent, writes nothing that it is only shown, and nothing at
+//! all where it refuses; and each refusal number comes under its condition alone.
+
+use crate::damage::WAYS;
+use crate::entry::locate_text;
+use crate::exports::{self, Correctable, Handed, Lent, Shown, State};
+use crate::guard::{Guarded, Side};
+use crate::prepared::{Prepared, Tables, node_count};
+use crate::reader::{LONGEST, read};
+use crate::writer;
+use plans::generate::{self, Case, Size};
+use plans::model::Call;
+use plans::plan::{GRID_LIMIT, Kind, Plan, Query, within};
+use plans::random::Random;
+use std::collections::BTreeMap;
+
+/// What is damaged.
+#[derive(Clone, Copy, Debug, PartialEq, Eq, PartialOrd, Ord)]
+pub enum Sort {
+    State,
+    Tables,
+    Undo,
+    Points,
+    Plan,
+    Text,
+}
+
+/// All sorts of damage.
+pub const SORTS: [Sort; 6] = [
+    Sort::State,
+    Sort::Tables,
+    Sort::Undo,
+    Sort::Points,
+    Sort::Plan,
+    Sort::Text,
+];
+
+/// Document 01's ceilings.
+const MOST_CORNERS: usize = 1 << 20;
+const MOST_RINGS: usize = 1 << 16;
+const MOST_POINTS: usize = 1 << 16;
+const MOST_RECORDS: u64 = 1 << 16;
+
+/// So many trials after one another damage the same plan.
+const TRIALS_A_PLAN: usize = 16;
+
+/// Plans that are cut a few times.
+const SIZE: Size = Size {
+    corners: 120,
+    rings: 24,
+};
+
+/// One in so many trials keeps what is only shown from being written.
+const FORBIDDEN_ONE_IN: usize = 16;
+
+/// Undo rows, of which some hold records.
+const UNDO_ROWS: usize = 6;
+
+/// The points that are asked of each.
+const QUERIES: usize = 4;
+
+/// The most entries of a table in a trial.
+const MOST_ENTRIES: usize = 2 * MOST_POINTS + 8;
+
+/// Numbers that lead far outside any table, or just outside a small one.
+const EXTREME_PLACES: [usize; 14] = [
+    0,
+    1,
+    2,
+    7,
+    8,
+    9,
+    1 << 16,
+    (1 << 16) + 1,
+    1 << 20,
+    (1 << 20) + 1,
+    1 << 61,
+    1 << 63,
+    usize::MAX - 1,
+    usize::MAX,
+];
+
+/// Coordinates at the ends of the ranges and of 64 bits.
+const EXTREME_COORDINATES: [i64; 13] = [
+    i64::MIN,
+    i64::MIN + 1,
+    -2 * GRID_LIMIT - 1,
+    -2 * GRID_LIMIT,
+    -GRID_LIMIT - 1,
+    -GRID_LIMIT,
+    -1,
+    0,
+    GRID_LIMIT,
+    GRID_LIMIT + 1,
+    2 * GRID_LIMIT,
+    2 * GRID_LIMIT + 1,
+    i64::MAX,
+];
+
+/// How often each answer came up, by sort of damage and call.
+#[derive(Default)]
+pub struct Answers {
+    pub counts: BTreeMap<(Sort, &'static str, i64), u64>,
+}
+
+impl Answers {
+    fn add(&mut self, sort: Sort, call: &'static str, answer: i64) {
+        *self.counts.entry((sort, call, answer)).or_default() += 1;
+    }
+
+    /// How often a call was answered so.
+    pub fn of(&self, call: &str, answer: i64) -> u64 {
+        let is_it = |&(&(_, name, number), _): &(&(Sort, &str, i64), &u64)| {
+            name == call && number == answer
+        };
+        self.counts
+            .iter()
+            .filter(is_it)
+            .map(|(_, count)| count)
+            .sum()
+    }
+}
+
+/// Guarded memory for everything that is lent or shown.
+pub struct Memory {
+    corners: Guarded<i64>,
+    rings: Guarded<usize>,
+    polygons: Guarded<usize>,
+    boxes: Guarded<[i64; 4]>,
+    parts: Guarded<[usize; 3]>,
+    edges: Guarded<usize>,
+    undo: Guarded<[i64; 3]>,
+    points: Guarded<i64>,
+    coordinates: Guarded<i64>,
+    lengths: Guarded<usize>,
+    counts: Guarded<usize>,
+    text: Guarded<u8>,
+}
+
+impl Default for Memory {
+    fn default() -> Memory {
+        Memory {
+            corners: Guarded::new(MOST_ENTRIES),
+            rings: Guarded::new(MOST_ENTRIES),
+            polygons: Guarded::new(MOST_ENTRIES),
+            boxes: Guarded::new(MOST_ENTRIES),
+            parts: Guarded::new(MOST_ENTRIES),
+            edges: Guarded::new(MOST_ENTRIES),
+            undo: Guarded::new(MOST_ENTRIES),
+            points: Guarded::new(MOST_ENTRIES),
+            coordinates: Guarded::new(2 * MOST_CORNERS + 8),
+            lengths: Guarded::new(MOST_ENTRIES),
+            counts: Guarded::new(MOST_ENTRIES),
+            text: Guarded::new(LONGEST + 8),
+        }
+    }
+}
+
+/// A prepared plan, damaged or not, and what is asked of it.
+struct Trial {
+    sort: Sort,
+    state: State,
+    tables: Tables,
+    queries: Vec<Query>,
+    points: Vec<i64>,
+    call: Call,
+}
+
+/// The damage of a seed, with memory to lend.
+pub struct Trials {
+    seed: u64,
+    memory: Memory,
+    side: Side,
+    /// Whether what is only shown is kept from being written. It takes long, and so is done in some trials; in all of them the tables are
+    /// compared.
+    forbid: bool,
+    base: Option<(usize, Case, Prepared)>,
+    pub answers: Answers,
+}
+
+impl Trials {
+    pub fn new(seed: u64) -> Trials {
+        Trials {
+            seed,
+            memory: Memory::default(),
+            side: Side::After,
+            forbid: true,
+            base: None,
+            answers: Answers::default(),
+        }
+    }
+
+    /// Tries damage of a sort; the number says which.
+    pub fn run(&mut self, sort: Sort, number: usize) {
+        let mut random = Random::new(self.seed ^ sort as u64, number as u64);
+        self.side = random.pick(&[Side::Before, Side::After]);
+        self.forbid = random.one_in(FORBIDDEN_ONE_IN);
+        match sort {
+            Sort::Plan => self.try_plan(&mut random, number),
+            Sort::Text => self.try_text(&mut random, number),
+            _ => {
+                let trial = self.trial(&mut random, sort, number);
+                self.look_up(&trial);
+                self.correct(&trial);
+            }
+        }
+    }
+
+    /// The plan of a number, prepared, with a few records to undo.
+    fn base(&mut self, number: usize) -> &(usize, Case, Prepared) {
+        let number = number / TRIALS_A_PLAN;
+        if self.base.as_ref().is_none_or(|base| base.0 != number) {
+            let case = generate::case(self.seed, number, SIZE, QUERIES);
+            let mut prepared =
+                Prepared::with_undo(&case.plan, UNDO_ROWS).expect("a generated plan is accepted");
+            for corner in 0..3.min(prepared.state.corners as usize) {
+                let to = (corner as i64, 7);
+                let _ = prepared.correct(Call::Move { corner, to });
+            }
+            self.base = Some((number, case, prepared));
+        }
+        self.base.as_ref().expect("it was put there")
+    }
+
+    fn trial(&mut self, random: &mut Random, sort: Sort, number: usize) -> Trial {
+        let (_, case, prepared) = self.base(number);
+        let mut trial = Trial {
+            sort,
+            state: prepared.state,
+            tables: prepared.tables.clone(),
+            queries: case.queries.clone(),
+            points: case
+                .queries
+                .iter()
+                .flat_map(|query| [query.x, query.y])
+                .collect(),
+            call: Call::Undo,
+        };
+        if random.one_in(2) {
+            trial.call = some_move(random, trial.state.corners as usize);
+        }
+        for _ in 0..1 + random.below(3) {
+            match sort {
+                Sort::State => damage_state(random, &mut trial.state),
+                Sort::Undo => damage_undo(random, &mut trial),
+                Sort::Points => damage_points(random, &mut trial.points),
+                _ => damage_tables(random, &mut trial.tables),
+            }
+        }
+        trial
+    }
+
+    /// Asks every point in every way, of tables that may not be written.
+    fn look_up(&mut self, trial: &Trial) {
+        let Trial {
+            sort,
+            state,
+            tables,
+            queries,
+            points,
+            ..
+        } = trial;
+        let memory = &mut self.memory;
+        memory.hold(tables, self.side);
+        memory.points.hold(points, self.side);
+        if self.forbid {
+            memory.set_tables(true);
+        }
+        let shown = memory.shown();
+        for &query in queries {
+            let boxes = exports::locate(*state, shown, query);
+            assert!([0, 1, 2, -15].contains(&boxes), "{boxes}");
+            self.answers.add(*sort, "locate", boxes);
+            let rings = exports::locate_by_rings(*state, shown, query);
+            assert!([0, 1, 2, -15].contains(&rings), "{rings}");
+            self.answers.add(*sort, "locate_by_rings", rings);
+        }
+        let first = exports::first_not_outside(*state, shown, memory.points.as_slice()).answer();
+        if self.forbid {
+            memory.set_tables(false);
+        }
+        assert!(memory.holds(tables), "a look-up wrote");
+        let answer = list_number(first, points.len() / 2);
+        match due_list(*state, points.len()) {
+            0 => assert!([-1, 0, 15].contains(&answer), "{answer}"),
+            due => assert_eq!(answer, due),
+        }
+        self.answers.add(*sort, "first_not_outside", answer);
+    }
+
+    /// Makes the correction, which writes nothing where it is refused.
+    fn correct(&mut self, trial: &Trial) {
+        let Trial {
+            sort,
+            state,
+            tables,
+            call,
+            ..
+        } = trial;
+        let memory = &mut self.memory;
+        memory.hold(tables, self.side);
+        let corrected = exports::correct(*state, memory.correctable(), *call);
+        let due = due_correction(*state, tables.undo.len(), *call);
+        match due {
+            0 => assert!([0, 15].contains(&corrected.refusal), "{corrected:?}"),
+            due => assert_eq!(corrected.refusal, due),
+        }
+        if corrected.refusal > 0 {
+            assert_eq!(corrected.state, *state);
+            assert!(memory.holds(tables), "a refusal wrote");
+        }
+        assert!(
+            memory.holds_shown(tables, *call),
+            "what is shown was written"
+        );
+        let name = match call {
+            Call::Move { .. } => "move",
+            Call::Undo => "undo",
+        };
+        self.answers.add(*sort, name, corrected.refusal as i64);
+    }
+
+    /// Prepares a plan of damaged lists, in tables of any length.
+    fn try_plan(&mut self, random: &mut Random, number: usize) {
+        let (_, case, prepared) = self.base(number);
+        let (mut plan, mut tables) = (case.plan.clone(), prepared.tables.clone());
+        let mut kind = plan.kind as u64;
+        for _ in 0..random.below(3) {
+            damage_plan(random, &mut plan, &mut kind);
+        }
+        if random.one_in(2) {
+            damage_lengths(random, &mut tables);
+        }
+        let (memory, side) = (&mut self.memory, self.side);
+        memory.hold(&tables, side);
+        memory.coordinates.hold(&plan.coordinates, side);
+        memory.lengths.hold(&plan.ring_lengths, side);
+        memory.counts.hold(&plan.ring_counts, side);
+        if self.forbid {
+            memory.set_plan(true);
+        }
+        let (handed, lent) = memory.handed(kind);
+        let preparing = exports::prepare(handed, lent);
+        if self.forbid {
+            memory.set_plan(false);
+        }
+        assert!(memory.holds_plan(&plan), "the plan handed in was written");
+        let (refusal, table, nodes) = due_preparing(kind, &plan, &tables);
+        assert_eq!(
+            (preparing.refusal, preparing.table, preparing.nodes),
+            (refusal, table, nodes)
+        );
+        if refusal > 0 {
+            assert!(memory.holds(&tables), "a refusal wrote");
+        }
+        self.answers.add(Sort::Plan, "prepare", refusal as i64);
+    }
+
+    /// Asks a point of damaged text, or of any bytes.
+    fn try_text(&mut self, random: &mut Random, number: usize) {
+        let (_, case, _) = self.base(number);
+        let query = random.pick(&case.queries);
+        let mut text = writer::write(&case.plan, random.pick(writer::headers(case.plan.kind)));
+        if random.one_in(8) {
+            text = (0..random.below(300)).map(|_| random.any() as u8).collect();
+        }
+        for _ in 0..random.below(3) {
+            if text.contains(&b'\n') {
+                text = random.pick(WAYS).1(random, &text);
+            }
+        }
+        if random.one_in(64) {
+            text.resize(random.pick(&[LONGEST - 1, LONGEST, LONGEST + 1]), b'0');
+        }
+        let memory = &mut self.memory;
+        memory.text.hold(&text, self.side);
+        if self.forbid {
+            memory.text.forbid_writing(true);
+        }
+        let answer = locate_text(memory.text.as_slice(), (query.x, query.y));
+        if self.forbid {
+            memory.text.forbid_writing(false);
+        }
+        assert!(memory.text.as_slice() == text, "the text was written");
+        let refused = match read(&text) {
+            Ok(_) => 0,
+            Err(crate::reader::Refusal::TooLong) => -1,
+            Err(crate::reader::Refusal::Line(_)) => -2,
+        };
+        if refused == 0 {
+            assert!([0, 1, 2].contains(&answer), "{answer}");
+        } else {
+            assert_eq!(answer, refused);
+        }
+        self.answers.add(Sort::Text, "locate_text", answer);
+    }
+}
+
+impl Memory {
+    fn hold(&mut self, tables: &Tables, side: Side) {
+        self.corners.hold(&tables.corners, side);
+        self.rings.hold(&tables.rings, side);
+        self.polygons.hold(&tables.polygons, side);
+        self.boxes.hold(&tables.boxes, side);
+        self.parts.hold(&tables.parts, side);
+        self.edges.hold(&tables.edges, side);
+        self.undo.hold(&tables.undo, side);
+    }
+
+    /// Whether the tables are as they were held.
+    fn holds(&self, tables: &Tables) -> bool {
+        self.corners.as_slice() == tables.corners
+            && self.rings.as_slice() == tables.rings
+            && self.polygons.as_slice() == tables.polygons
+            && self.boxes.as_slice() == tables.boxes
+            && self.parts.as_slice() == tables.parts
+            && self.edges.as_slice() == tables.edges
+            && self.undo.as_slice() == tables.undo
+    }
+
+    /// Whether the tables that a correction only reads are as they were held.
+    fn holds_shown(&self, tables: &Tables, call: Call) -> bool {
+        self.rings.as_slice() == tables.rings
+            && self.parts.as_slice() == tables.parts
+            && self.edges.as_slice() == tables.edges
+            && (call != Call::Undo || self.undo.as_slice() == tables.undo)
+    }
+
+    /// Whether the plan handed in is as it was held.
+    fn holds_plan(&self, plan: &Plan) -> bool {
+        self.coordinates.as_slice() == plan.coordinates
+            && self.lengths.as_slice() == plan.ring_lengths
+            && self.counts.as_slice() == plan.ring_counts
+    }
+
+    /// Keeps the tables from being written, or no longer.
+    fn set_tables(&self, forbid: bool) {
+        self.corners.forbid_writing(forbid);
+        self.rings.forbid_writing(forbid);
+        self.polygons.forbid_writing(forbid);
+        self.boxes.forbid_writing(forbid);
+        self.parts.forbid_writing(forbid);
+        self.edges.forbid_writing(forbid);
+        self.points.forbid_writing(forbid);
+    }
+
+    /// The same of the plan handed in.
+    fn set_plan(&self, forbid: bool) {
+        self.coordinates.forbid_writing(forbid);
+        self.lengths.forbid_writing(forbid);
+        self.counts.forbid_writing(forbid);
+    }
+
+    fn shown(&self) -> Shown<'_> {
+        Shown {
+            corners: self.corners.as_slice(),
+            rings: self.rings.as_slice(),
+            polygons: self.polygons.as_slice(),
+            boxes: self.boxes.as_slice(),
+            parts: self.parts.as_slice(),
+            edges: self.edges.as_slice(),
+        }
+    }
+
+    fn correctable(&mut self) -> Correctable<'_> {
+        Correctable {
+            corners: self.corners.as_mut_slice(),
+            rings: self.rings.as_slice(),
+            boxes: self.boxes.as_mut_slice(),
+            parts: self.parts.as_slice(),
+            edges: self.edges.as_slice(),
+            undo: self.undo.as_mut_slice(),
+        }
+    }
+
+    fn handed(&mut self, kind: u64) -> (Handed<'_>, Lent<'_>) {
+        let handed = Handed {
+            kind,
+            coordinates: self.coordinates.as_slice(),
+            lengths: self.lengths.as_slice(),
+            counts: self.counts.as_slice(),
+        };
+        let lent = Lent {
+            corners: self.corners.as_mut_slice(),
+            rings: self.rings.as_mut_slice(),
+            polygons: self.polygons.as_mut_slice(),
+            boxes: self.boxes.as_mut_slice(),
+            parts: self.parts.as_mut_slice(),
+            edges: self.edges.as_mut_slice(),
+        };
+        (handed, lent)
+    }
+}
+
+/// Whether six numbers are a state's.
+fn is_state(state: State) -> bool {
+    state.kind <= 1 && state.out_of_range <= 1
+}
+
+/// An answer to a list of so many points as a number: 0 where a point is found, -1 where none is, or the refusal number.
+fn list_number(answer: Result<Option<usize>, u64>, points: usize) -> i64 {
+    match answer {
+        Ok(None) => -1,
+        Ok(Some(place)) => {
+            assert!(place < points, "{place} of {points} points");
+            0
+        }
+        Err(number) => number as i64,
+    }
+}
+
+/// The refusal number of a list of so many coordinates that needs no table, or 0: then it is answered or gets 15.
+fn due_list(state: State, coordinates: usize) -> i64 {
+    if !is_state(state) {
+        15
+    } else if coordinates / 2 > MOST_POINTS {
+        4
+    } else if coordinates % 2 == 1 {
+        3
+    } else {
+        0
+    }
+}
+
+/// The refusal number of a correction that needs no table, or 0: then it is accepted or gets 15.
+fn due_correction(state: State, rows: usize, call: Call) -> u64 {
+    if !is_state(state) {
+        return 15;
+    }
+    if state.out_of_range == 1 {
+        return 12;
+    }
+    match call {
+        Call::Move { corner, to: (x, y) } => {
+            let in_range = within(x, GRID_LIMIT) && within(y, GRID_LIMIT);
+            if corner as u64 >= state.corners {
+                5
+            } else if !in_range {
+                6
+            } else if state.undo_depth >= MOST_RECORDS.min(rows as u64) {
+                13
+            } else {
+                0
+            }
+        }
+        Call::Undo if state.undo_depth == 0 => 14,
+        Call::Undo => 0,
+    }
+}
+
+/// What preparing is due to answer: the refusal, its table and the number of nodes.
+fn due_preparing(kind: u64, plan: &Plan, tables: &Tables) -> (u64, u64, u64) {
+    let list = kind == Kind::List as u64;
+    let corners = plan.coordinates.len() / 2;
+    let (rings, polygons) = (plan.ring_lengths.len(), plan.ring_counts.len());
+    if kind > 1 {
+        return (15, 0, 0);
+    }
+    if corners > MOST_CORNERS || rings > MOST_RINGS || list && polygons > MOST_RINGS {
+        return (4, 0, 0);
+    }
+    let sum = |numbers: &[usize]| numbers.iter().map(|&number| number as u128).sum::<u128>();
+    let uneven = plan.coordinates.len() % 2 == 1 || sum(&plan.ring_lengths) != corners as u128;
+    let parted = sum(&plan.ring_counts) == rings as u128 && !plan.ring_counts.contains(&0);
+    if uneven || list && !parted {
+        return (3, 0, 0);
+    }
+    let in_range = plan.in_range();
+    let nodes = node_count(corners);
+    let short = [
+        tables.corners.len() < 2 * corners,
+        tables.rings.len() < rings,
+        list && tables.polygons.len() < polygons,
+        in_range && tables.boxes.len().min(tables.parts.len()) < nodes,
+        in_range && tables.edges.len() < corners,
+    ];
+    match short.iter().position(|&short| short) {
+        Some(table) => (11, table as u64 + 1, 0),
+        None if in_range => (0, 0, nodes as u64),
+        None => (0, 0, 0),
+    }
+}
+
+/// A move of one of so many corners, or of none.
+fn some_move(random: &mut Random, corners: usize) -> Call {
+    let corner = if corners > 0 && !random.one_in(4) {
+        random.below(corners)
+    } else {
+        some_place(random, corners)
+    };
+    let to = if random.one_in(2) {
+        (random.between(-20, 20), random.between(-20, 20))
+    } else {
+        (some_coordinate(random), some_coordinate(random))
+    };
+    Call::Move { corner, to }
+}
+
+/// A number that is a place of a table of so many entries, nearly one, or far from it.
+fn some_place(random: &mut Random, entries: usize) -> usize {
+    match random.below(4) {
+        0 => random.below(entries.saturating_add(2)),
+        1 => random.any() as usize,
+        2 => entries.saturating_sub(random.below(3)),
+        _ => random.pick(&EXTREME_PLACES),
+    }
+}
+
+/// A coordinate of a small plan, at an end, or any.
+fn some_coordinate(random: &mut Random) -> i64 {
+    match random.below(4) {
+        0 => random.any() as i64,
+        1 => random.between(-GRID_LIMIT, GRID_LIMIT),
+        2 => random.between(-20, 20),
+        _ => random.pick(&EXTREME_COORDINATES),
+    }
+}
+
+fn damage_state(random: &mut Random, state: &mut State) {
+    let entries = state.corners as usize;
+    let number = some_place(random, entries) as u64;
+    match random.below(6) {
+        0 => state.kind = number,
+        1 => state.out_of_range = number,
+        2 => state.corners = number,
+        3 => state.rings = number,
+        4 => state.polygons = number,
+        _ => state.undo_depth = number,
+    }
+}
+
+fn damage_tables(random: &mut Random, tables: &mut Tables) {
+    let entries = tables.edges.len();
+    let column = random.below(4);
+    match random.below(10) {
+        0 => change(random, &mut tables.corners, |random, entry| {
+            *entry = some_coordinate(random)
+        }),
+        1 => change(random, &mut tables.rings, |random, entry| {
+            *entry = some_place(random, entries)
+        }),
+        2 => change(random, &mut tables.polygons, |random, entry| {
+            *entry = some_place(random, entries)
+        }),
+        3 | 4 => change(random, &mut tables.boxes, |random, row| {
+            row[column] = some_coordinate(random)
+        }),
+        5 | 6 => change(random, &mut tables.parts, |random, row| {
+            row[column % 3] = some_place(random, entries)
+        }),
+        7 => change(random, &mut tables.edges, |random, entry| {
+            *entry = some_place(random, entries)
+        }),
+        8 => damage_lengths(random, tables),
+        _ => damage_all(random, tables),
+    }
+}
+
+/// Fills one table with any numbers.
+fn damage_all(random: &mut Random, tables: &mut Tables) {
+    let entries = tables.edges.len();
+    match random.below(5) {
+        0 => tables.corners.fill_with(|| some_coordinate(random)),
+        1 => tables.rings.fill_with(|| some_place(random, entries)),
+        2 => tables
+            .boxes
+            .fill_with(|| [0; 4].map(|_| some_coordinate(random))),
+        3 => tables
+            .parts
+            .fill_with(|| [0; 3].map(|_| some_place(random, entries))),
+        _ => tables.edges.fill_with(|| some_place(random, entries)),
+    }
+}
+
+/// Makes a table shorter or longer.
+fn damage_lengths(random: &mut Random, tables: &mut Tables) {
+    match random.below(7) {
+        0 => resize(random, &mut tables.corners, i64::MIN),
+        1 => resize(random, &mut tables.rings, usize::MAX),
+        2 => resize(random, &mut tables.polygons, usize::MAX),
+        3 => resize(random, &mut tables.boxes, [i64::MIN; 4]),
+        4 => resize(random, &mut tables.parts, [usize::MAX; 3]),
+        5 => resize(random, &mut tables.edges, usize::MAX),
+        _ => resize(random, &mut tables.undo, [i64::MIN; 3]),
+    }
+}
+
+/// Damages the records, their number, or the tables above which a corner is put back.
+fn damage_undo(random: &mut Random, trial: &mut Trial) {
+    let entries = trial.tables.edges.len();
+    match random.below(6) {
+        0 => trial.state.undo_depth = random.below(UNDO_ROWS + 2) as u64,
+        1 => resize(random, &mut trial.tables.undo, [i64::MIN; 3]),
+        2 => damage_tables(random, &mut trial.tables),
+        _ => change(random, &mut trial.tables.undo, |random, row| {
+            match random.below(3) {
+                0 => row[0] = some_place(random, entries) as i64,
+                column => row[column] = some_coordinate(random),
+            }
+        }),
+    }
+}
+
+fn damage_points(random: &mut Random, points: &mut Vec<i64>) {
+    match random.below(5) {
+        0 => resize(random, points, 0),
+        1 => points.fill_with(|| some_coordinate(random)),
+        // Long lists take long: few of them.
+        2 if random.one_in(500) => {
+            let length = 2 * MOST_POINTS - 1 + random.below(5);
+            points.resize(length, GRID_LIMIT + 1);
+        }
+        _ => change(random, points, |random, entry| {
+            *entry = some_coordinate(random)
+        }),
+    }
+}
+
+fn damage_plan(random: &mut Random, plan: &mut Plan, kind: &mut u64) {
+    let entries = plan.coordinates.len();
+    match random.below(9) {
+        0 => *kind = some_place(random, 2) as u64,
+        1 => *kind = random.below(2) as u64,
+        2 => resize(random, &mut plan.coordinates, 0),
+        3 => change(random, &mut plan.coordinates, |random, entry| {
+            *entry = some_coordinate(random)
+        }),
+        4 => resize(random, &mut plan.ring_lengths, 0),
+        5 => change(random, &mut plan.ring_lengths, |random, entry| {
+            *entry = some_place(random, entries)
+        }),
+        6 => resize(random, &mut plan.ring_counts, 0),
+        7 if random.one_in(50) => exceed(random, plan),
+        _ => change(random, &mut plan.ring_counts, |random, entry| {
+            *entry = some_place(random, entries)
+        }),
+    }
+}
+
+/// Puts one of the plan's lists at its ceiling or beyond it.
+fn exceed(random: &mut Random, plan: &mut Plan) {
+    let beyond = random.below(3);
+    match random.below(3) {
+        0 => plan.coordinates.resize(2 * MOST_CORNERS + beyond, 0),
+        1 => plan.ring_lengths.resize(MOST_RINGS + beyond, 0),
+        _ => plan.ring_counts.resize(MOST_RINGS + beyond, 1),
+    }
+}
+
+fn change<T>(random: &mut Random, table: &mut [T], change: impl FnOnce(&mut Random, &mut T)) {
+    if !table.is_empty() {
+        let place = random.below(table.len());
+        change(random, &mut table[place]);
+    }
+}
+
+/// Leaves out some entries, or adds some.
+fn resize<T: Clone>(random: &mut Random, table: &mut Vec<T>, entry: T) {
+    let length = match random.below(4) {
+        0 => 0,
+        1 => table.len() + 1,
+        2 => table.len().saturating_sub(1),
+        _ => random.below(table.len() + 2),
+    };
+    table.resize(length, entry);
+}
