@@ -1,0 +1,418 @@
+//! The calls of the static library `capi` (include/findspot.h), and all of this crate's `unsafe` code.
+//!
+//! Of its caller the library asks only that each pointer and length are those of one list, that a list that is written overlaps no
+//! other, and that nobody writes them meanwhile. Slices are just that: an empty one has a pointer that is not null and is not read.
+//! What the lists hold is free: the library tests every number that it takes from them.
+
+#![allow(unsafe_code)]
+
+use crate::point::Point;
+
+/// The numbers that go with the tables of a prepared plan.
+#[repr(C)]
+#[derive(Clone, Copy, Debug, Default, PartialEq, Eq)]
+pub(crate) struct State {
+    /// 0 a list, 1 a tree.
+    pub kind: usize,
+    /// 1 where a corner is out of range, else 0.
+    pub out_of_range: usize,
+    pub corners: usize,
+    pub rings: usize,
+    pub polygons: usize,
+    pub undo_depth: usize,
+}
+
+/// What preparing answers: the refusal number or 0, the table that refusal 11 names or 0, the number of nodes, and the state.
+#[repr(C)]
+pub(crate) struct Preparing {
+    pub refusal: usize,
+    pub table: usize,
+    pub nodes: usize,
+    pub state: State,
+}
+
+/// What a list of points is answered: the refusal number or 0, 1 where a point is not outside, and the place of the first.
+#[repr(C)]
+pub(crate) struct First {
+    pub refusal: usize,
+    pub found: usize,
+    pub place: usize,
+}
+
+/// What a correction answers: the refusal number or 0, and the state from then on.
+#[repr(C)]
+pub(crate) struct Correction {
+    pub refusal: usize,
+    pub state: State,
+}
+
+/// The tables that are lent.
+#[derive(Clone, Debug, PartialEq, Eq)]
+pub(crate) struct Tables {
+    pub corners: Vec<Point>,
+    /// Where each ring ends.
+    pub rings: Vec<usize>,
+    /// Where the rings of each polygon end.
+    pub polygons: Vec<usize>,
+    /// Least x, least y, greatest x, greatest y.
+    pub boxes: Vec<[i64; 4]>,
+    /// First place, number of places, place of the left child.
+    pub parts: Vec<[usize; 3]>,
+    pub edges: Vec<usize>,
+}
+
+type LookUp = unsafe extern "C" fn(
+    state: State,
+    corners: *const i64,
+    corners_length: usize,
+    rings: *const usize,
+    rings_length: usize,
+    polygons: *const usize,
+    polygons_length: usize,
+    boxes: *const [i64; 4],
+    boxes_length: usize,
+    parts: *const [usize; 3],
+    parts_length: usize,
+    edges: *const usize,
+    edges_length: usize,
+    x: i64,
+    y: i64,
+) -> i64;
+
+type LookUpByRings = unsafe extern "C" fn(
+    state: State,
+    corners: *const i64,
+    corners_length: usize,
+    rings: *const usize,
+    rings_length: usize,
+    polygons: *const usize,
+    polygons_length: usize,
+    x: i64,
+    y: i64,
+) -> i64;
+
+unsafe extern "C" {
+    fn findspot_locate_text(text: *const u8, length: usize, x: i64, y: i64) -> i64;
+
+    fn findspot_prepare(
+        kind: usize,
+        coordinates: *const i64,
+        coordinates_length: usize,
+        lengths: *const usize,
+        lengths_length: usize,
+        counts: *const usize,
+        counts_length: usize,
+        corners: *mut i64,
+        corners_length: usize,
+        rings: *mut usize,
+        rings_length: usize,
+        polygons: *mut usize,
+        polygons_length: usize,
+        boxes: *mut [i64; 4],
+        boxes_length: usize,
+        parts: *mut [usize; 3],
+        parts_length: usize,
+        edges: *mut usize,
+        edges_length: usize,
+    ) -> Preparing;
+
+    fn findspot_locate(
+        state: State,
+        corners: *const i64,
+        corners_length: usize,
+        rings: *const usize,
+        rings_length: usize,
+        polygons: *const usize,
+        polygons_length: usize,
+        boxes: *const [i64; 4],
+        boxes_length: usize,
+        parts: *const [usize; 3],
+        parts_length: usize,
+        edges: *const usize,
+        edges_length: usize,
+        x: i64,
+        y: i64,
+    ) -> i64;
+
+    fn findspot_locate_doubled(
+        state: State,
+        corners: *const i64,
+        corners_length: usize,
+        rings: *const usize,
+        rings_length: usize,
+        polygons: *const usize,
+        polygons_length: usize,
+        boxes: *const [i64; 4],
+        boxes_length: usize,
+        parts: *const [usize; 3],
+        parts_length: usize,
+        edges: *const usize,
+        edges_length: usize,
+        x: i64,
+        y: i64,
+    ) -> i64;
+
+    fn findspot_locate_by_rings(
+        state: State,
+        corners: *const i64,
+        corners_length: usize,
+        rings: *const usize,
+        rings_length: usize,
+        polygons: *const usize,
+        polygons_length: usize,
+        x: i64,
+        y: i64,
+    ) -> i64;
+
+    fn findspot_locate_doubled_by_rings(
+        state: State,
+        corners: *const i64,
+        corners_length: usize,
+        rings: *const usize,
+        rings_length: usize,
+        polygons: *const usize,
+        polygons_length: usize,
+        x: i64,
+        y: i64,
+    ) -> i64;
+
+    fn findspot_first_not_outside(
+        state: State,
+        corners: *const i64,
+        corners_length: usize,
+        rings: *const usize,
+        rings_length: usize,
+        polygons: *const usize,
+        polygons_length: usize,
+        boxes: *const [i64; 4],
+        boxes_length: usize,
+        parts: *const [usize; 3],
+        parts_length: usize,
+        edges: *const usize,
+        edges_length: usize,
+        points: *const i64,
+        points_length: usize,
+    ) -> First;
+
+    fn findspot_move(
+        state: State,
+        corners: *mut i64,
+        corners_length: usize,
+        rings: *const usize,
+        rings_length: usize,
+        boxes: *mut [i64; 4],
+        boxes_length: usize,
+        parts: *const [usize; 3],
+        parts_length: usize,
+        edges: *const usize,
+        edges_length: usize,
+        undo: *mut [i64; 3],
+        undo_length: usize,
+        corner: usize,
+        x: i64,
+        y: i64,
+    ) -> Correction;
+
+    fn findspot_undo(
+        state: State,
+        corners: *mut i64,
+        corners_length: usize,
+        rings: *const usize,
+        rings_length: usize,
+        boxes: *mut [i64; 4],
+        boxes_length: usize,
+        parts: *const [usize; 3],
+        parts_length: usize,
+        edges: *const usize,
+        edges_length: usize,
+        undo: *const [i64; 3],
+        undo_length: usize,
+    ) -> Correction;
+}
+
+/// How many coordinates points have. A list of points of 16 bytes is never so long that this would overflow.
+fn coordinates_of(points: &[Point]) -> usize {
+    points.len().checked_mul(2).expect("a slice is shorter")
+}
+
+/// The answer to a point asked of a text: a place's number, or minus the refusal number.
+pub(crate) fn locate_text(text: &[u8], point: Point) -> i64 {
+    // SAFETY: pointer and length are those of one slice, which outlives the call and is only read.
+    unsafe { findspot_locate_text(text.as_ptr(), text.len(), point.x, point.y) }
+}
+
+impl Tables {
+    /// Prepares a plan in these tables. Refused, it leaves them as they were.
+    pub(crate) fn prepare(
+        &mut self,
+        kind: usize,
+        corners: &[Point],
+        lengths: &[usize],
+        counts: &[usize],
+    ) -> Preparing {
+        // SAFETY: each pointer and length are those of one list, which outlives the call. The lists that are written are borrowed for it alone.
+        // A point is two numbers x, y by its fixed layout, so a list of points is one of twice as many numbers.
+        unsafe {
+            findspot_prepare(
+                kind,
+                corners.as_ptr().cast(),
+                coordinates_of(corners),
+                lengths.as_ptr(),
+                lengths.len(),
+                counts.as_ptr(),
+                counts.len(),
+                self.corners.as_mut_ptr().cast(),
+                coordinates_of(&self.corners),
+                self.rings.as_mut_ptr(),
+                self.rings.len(),
+                self.polygons.as_mut_ptr(),
+                self.polygons.len(),
+                self.boxes.as_mut_ptr(),
+                self.boxes.len(),
+                self.parts.as_mut_ptr(),
+                self.parts.len(),
+                self.edges.as_mut_ptr(),
+                self.edges.len(),
+            )
+        }
+    }
+
+    /// The answer through the boxes: a place's number, or minus the refusal number.
+    pub(crate) fn locate(&self, state: State, point: Point) -> i64 {
+        self.look_up(findspot_locate, state, point)
+    }
+
+    /// The same for a doubled point, on the half-grid.
+    pub(crate) fn locate_doubled(&self, state: State, doubled: Point) -> i64 {
+        self.look_up(findspot_locate_doubled, state, doubled)
+    }
+
+    /// The answer ring by ring.
+    pub(crate) fn locate_by_rings(&self, state: State, point: Point) -> i64 {
+        self.look_up_by_rings(findspot_locate_by_rings, state, point)
+    }
+
+    /// The same for a doubled point, on the half-grid.
+    pub(crate) fn locate_doubled_by_rings(&self, state: State, doubled: Point) -> i64 {
+        self.look_up_by_rings(findspot_locate_doubled_by_rings, state, doubled)
+    }
+
+    #[inline]
+    fn look_up(&self, call: LookUp, state: State, point: Point) -> i64 {
+        // SAFETY: each pointer and length are those of one list, which outlives the call and is only read; `call` is one of the library's two.
+        unsafe {
+            call(
+                state,
+                self.corners.as_ptr().cast(),
+                coordinates_of(&self.corners),
+                self.rings.as_ptr(),
+                self.rings.len(),
+                self.polygons.as_ptr(),
+                self.polygons.len(),
+                self.boxes.as_ptr(),
+                self.boxes.len(),
+                self.parts.as_ptr(),
+                self.parts.len(),
+                self.edges.as_ptr(),
+                self.edges.len(),
+                point.x,
+                point.y,
+            )
+        }
+    }
+
+    #[inline]
+    fn look_up_by_rings(&self, call: LookUpByRings, state: State, point: Point) -> i64 {
+        // SAFETY: as `look_up`.
+        unsafe {
+            call(
+                state,
+                self.corners.as_ptr().cast(),
+                coordinates_of(&self.corners),
+                self.rings.as_ptr(),
+                self.rings.len(),
+                self.polygons.as_ptr(),
+                self.polygons.len(),
+                point.x,
+                point.y,
+            )
+        }
+    }
+
+    /// The first of the points that is not outside.
+    pub(crate) fn first_not_outside(&self, state: State, points: &[Point]) -> First {
+        // SAFETY: each pointer and length are those of one list, which outlives the call and is only read; points are numbers by their layout.
+        unsafe {
+            findspot_first_not_outside(
+                state,
+                self.corners.as_ptr().cast(),
+                coordinates_of(&self.corners),
+                self.rings.as_ptr(),
+                self.rings.len(),
+                self.polygons.as_ptr(),
+                self.polygons.len(),
+                self.boxes.as_ptr(),
+                self.boxes.len(),
+                self.parts.as_ptr(),
+                self.parts.len(),
+                self.edges.as_ptr(),
+                self.edges.len(),
+                points.as_ptr().cast(),
+                coordinates_of(points),
+            )
+        }
+    }
+
+    /// Moves a corner and records its old place. Refused, it leaves all as it was.
+    pub(crate) fn move_corner(
+        &mut self,
+        state: State,
+        undo: &mut [[i64; 3]],
+        corner: usize,
+        place: Point,
+    ) -> Correction {
+        // SAFETY: each pointer and length are those of one list, which outlives the call. Those that are written are borrowed for it alone.
+        unsafe {
+            findspot_move(
+                state,
+                self.corners.as_mut_ptr().cast(),
+                coordinates_of(&self.corners),
+                self.rings.as_ptr(),
+                self.rings.len(),
+                self.boxes.as_mut_ptr(),
+                self.boxes.len(),
+                self.parts.as_ptr(),
+                self.parts.len(),
+                self.edges.as_ptr(),
+                self.edges.len(),
+                undo.as_mut_ptr(),
+                undo.len(),
+                corner,
+                place.x,
+                place.y,
+            )
+        }
+    }
+
+    /// Takes the latest move back. Refused, it leaves all as it was.
+    pub(crate) fn undo(&mut self, state: State, undo: &[[i64; 3]]) -> Correction {
+        // SAFETY: as `move_corner`; the undo table is only read.
+        unsafe {
+            findspot_undo(
+                state,
+                self.corners.as_mut_ptr().cast(),
+                coordinates_of(&self.corners),
+                self.rings.as_ptr(),
+                self.rings.len(),
+                self.boxes.as_mut_ptr(),
+                self.boxes.len(),
+                self.parts.as_ptr(),
+                self.parts.len(),
+                self.edges.as_ptr(),
+                self.edges.len(),
+                undo.as_ptr(),
+                undo.len(),
+            )
+        }
+    }
+}

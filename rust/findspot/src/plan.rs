@@ -1,0 +1,192 @@
+//! A plan as it is handed over.
+
+use crate::point::Point;
+use crate::refusal::Refusal;
+use crate::text;
+
+/// How the rings of a plan make up its region.
+#[derive(Clone, Copy, Debug, PartialEq, Eq, Hash)]
+pub enum Kind {
+    /// A list of polygons, each an outer ring and then its holes. A point inside any of them is inside, else on the boundary of any of
+    /// them is on the boundary.
+    List,
+    /// A tree of rings, whatever their nesting and order. A point on any ring is on the boundary, else inside if an odd number of rings
+    /// go round it.
+    Tree,
+}
+
+/// An outline with or without holes, a list of such polygons, or a tree of outlines.
+///
+/// Corners, edges and rings are numbered from 0 in the order in which they are handed over. Edge i starts at corner i; the last edge of a
+/// ring ends at the ring's first corner. Rings may be empty, and may cross and repeat themselves.
+///
+/// A plan is judged when it is prepared, by the proved code: [`Refusal::TooMany`] or [`Refusal::Uneven`]. Making one refuses nothing.
+#[derive(Clone, Debug, PartialEq, Eq, Hash)]
+pub struct Plan {
+    kind: Kind,
+    corners: Vec<Point>,
+    ring_lengths: Vec<usize>,
+    ring_counts: Vec<usize>,
+}
+
+impl Plan {
+    /// A plan of one outline.
+    ///
+    /// ```
+    /// # use findspot::{Location, Plan, Point, Prepared};
+    /// let triangle = Prepared::new(&Plan::ring([(0, 0), (8, 0), (0, 8)]))?;
+    /// assert_eq!(triangle.locate(Point::new(4, 4)), Location::OnBoundary);
+    /// # Ok::<(), findspot::Refusal>(())
+    /// ```
+    pub fn ring(corners: impl IntoIterator<Item = impl Into<Point>>) -> Plan {
+        Plan::polygon([corners])
+    }
+
+    /// A plan of one polygon: its outer ring and then its holes, of which the first that a point is not outside of decides.
+    pub fn polygon<Ring>(rings: impl IntoIterator<Item = Ring>) -> Plan
+    where
+        Ring: IntoIterator<Item: Into<Point>>,
+    {
+        Plan::list([rings])
+    }
+
+    /// A list of polygons, each an outer ring and then its holes. One of no rings makes the list [`Refusal::Uneven`].
+    ///
+    /// ```
+    /// # use findspot::{Location, Plan, Point, Prepared};
+    /// let first = [[(0, 0), (10, 0), (10, 10), (0, 10)]];
+    /// let second = [[(5, 0), (15, 0), (15, 10), (5, 10)]];
+    /// let list = Prepared::new(&Plan::list([first, second]))?;
+    /// assert_eq!(list.locate(Point::new(10, 5)), Location::Inside);
+    /// # Ok::<(), findspot::Refusal>(())
+    /// ```
+    pub fn list<Polygon, Ring>(polygons: impl IntoIterator<Item = Polygon>) -> Plan
+    where
+        Polygon: IntoIterator<Item = Ring>,
+        Ring: IntoIterator<Item: Into<Point>>,
+    {
+        let mut plan = Plan::empty(Kind::List);
+        for polygon in polygons {
+            plan.open_polygon();
+            plan.add_rings(polygon);
+        }
+        plan
+    }
+
+    /// A tree of rings.
+    ///
+    /// ```
+    /// # use findspot::{Location, Plan, Point, Prepared};
+    /// let outer = [(0, 0), (10, 0), (10, 10), (0, 10)];
+    /// let inner = [(2, 2), (8, 2), (8, 8), (2, 8)];
+    /// let tree = Prepared::new(&Plan::tree([outer, inner]))?;
+    /// assert_eq!(tree.locate(Point::new(1, 1)), Location::Inside);
+    /// assert_eq!(tree.locate(Point::new(5, 5)), Location::Outside);
+    /// # Ok::<(), findspot::Refusal>(())
+    /// ```
+    pub fn tree<Ring>(rings: impl IntoIterator<Item = Ring>) -> Plan
+    where
+        Ring: IntoIterator<Item: Into<Point>>,
+    {
+        let mut plan = Plan::empty(Kind::Tree);
+        plan.add_rings(rings);
+        plan
+    }
+
+    /// The plan of tables as they are: all corners, the number of corners of each ring and, for a list, the number of rings of each polygon.
+    /// Tables that do not fit together are refused when the plan is prepared. A tree's ring counts are not looked at.
+    pub fn from_tables(
+        kind: Kind,
+        corners: Vec<Point>,
+        ring_lengths: Vec<usize>,
+        ring_counts: Vec<usize>,
+    ) -> Plan {
+        Plan {
+            kind,
+            corners,
+            ring_lengths,
+            ring_counts,
+        }
+    }
+
+    /// The plan that a text holds: a record a line, fields parted by single tabs, each line ended by a line feed. First `plan`, alone or with
+    /// `list` or `tree`; alone it is a list. Then `outer` and `hole` (lists) or `node` (trees) open a ring, and `at`, x, y is a
+    /// corner of it. Numbers are decimal, of 64 bits, with no leading zero, plus sign or -0.
+    ///
+    /// ```
+    /// # use findspot::{Location, Plan, Point, Prepared, Refusal};
+    /// let plan = Plan::from_text(b"plan\tlist\nouter\nat\t0\t0\nat\t8\t0\nat\t0\t8\n")?;
+    /// assert_eq!(Prepared::new(&plan)?.locate(Point::new(1, 1)), Location::Inside);
+    /// assert_eq!(Plan::from_text(b"plan\nhole\n"), Err(Refusal::BadLine(2)));
+    /// # Ok::<(), findspot::Refusal>(())
+    /// ```
+    ///
+    /// The reader is written in this crate and is outside the proof; tests hold it to the proved [`locate_text`](crate::locate_text).
+    ///
+    /// # Errors
+    ///
+    /// [`Refusal::TextTooLong`] (1), else [`Refusal::BadLine`] (2) with the first line that breaks the format; a last line that is not ended
+    /// breaks it.
+    pub fn from_text(text: &[u8]) -> Result<Plan, Refusal> {
+        text::read(text)
+    }
+
+    /// The plan's kind.
+    pub fn kind(&self) -> Kind {
+        self.kind
+    }
+
+    /// All corners, ring after ring.
+    pub fn corners(&self) -> &[Point] {
+        &self.corners
+    }
+
+    /// The number of corners of each ring.
+    pub fn ring_lengths(&self) -> &[usize] {
+        &self.ring_lengths
+    }
+
+    /// The number of rings of each polygon of a list.
+    pub fn ring_counts(&self) -> &[usize] {
+        &self.ring_counts
+    }
+
+    /// A plan of no rings.
+    pub(crate) fn empty(kind: Kind) -> Plan {
+        Plan::from_tables(kind, Vec::new(), Vec::new(), Vec::new())
+    }
+
+    /// Opens a polygon, which has no ring yet.
+    pub(crate) fn open_polygon(&mut self) {
+        self.ring_counts.push(0);
+    }
+
+    /// Opens a ring, which has no corner yet; in a list it is one of the last polygon. Gives nothing where a list has no polygon.
+    pub(crate) fn open_ring(&mut self) -> Option<()> {
+        if self.kind == Kind::List {
+            *self.ring_counts.last_mut()? += 1;
+        }
+        self.ring_lengths.push(0);
+        Some(())
+    }
+
+    /// Adds a corner to the last ring. Gives nothing where there is no ring.
+    pub(crate) fn add_corner(&mut self, corner: Point) -> Option<()> {
+        *self.ring_lengths.last_mut()? += 1;
+        self.corners.push(corner);
+        Some(())
+    }
+
+    /// Adds rings with their corners, in a list to the last polygon, which is there.
+    fn add_rings<Ring>(&mut self, rings: impl IntoIterator<Item = Ring>)
+    where
+        Ring: IntoIterator<Item: Into<Point>>,
+    {
+        for ring in rings {
+            self.open_ring();
+            for corner in ring {
+                self.add_corner(corner.into());
+            }
+        }
+    }
+}

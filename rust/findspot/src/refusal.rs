@@ -1,0 +1,164 @@
+//! Why a call is refused, by number.
+
+use crate::{MAX_COORD, MAX_CORNERS, MAX_POINTS, MAX_POLYGONS, MAX_RINGS, MAX_TEXT, MAX_UNDO};
+use std::error::Error;
+use std::fmt;
+
+/// Why a call is refused. A refused call has changed nothing.
+#[derive(Clone, Copy, Debug, PartialEq, Eq, Hash)]
+#[non_exhaustive]
+pub enum Refusal {
+    /// 1: the text has more than [`MAX_TEXT`] bytes.
+    TextTooLong,
+    /// 2: the first line, counted from 1, that breaks the text's format. An empty text breaks it in line 1.
+    BadLine(usize),
+    /// 3: the ring lengths do not sum to the corners or, in a list, the ring counts do not sum to the rings or a polygon has no ring.
+    Uneven,
+    /// 4: more corners, rings, polygons, listed points or moves to undo than their ceilings.
+    TooMany,
+    /// 5: no such corner.
+    NoSuchCorner,
+    /// 6: the new place of a corner is out of range.
+    PlaceOutOfRange,
+    /// 11: a table that the library was lent is too short. This crate lends tables that are long enough.
+    TableTooShort(Table),
+    /// 12: a move or undo on a plan that has a corner out of range.
+    PlanOutOfRange,
+    /// 13: as many moves as can be kept for undoing are made.
+    UndoFull,
+    /// 14: no move is left to undo.
+    NothingToUndo,
+    /// 15: the tables are not such as preparing and corrections leave. Those of this crate are.
+    Unsound,
+}
+
+/// The tables that the library is lent, in the order in which refusal 11 looks at them.
+#[derive(Clone, Copy, Debug, PartialEq, Eq, Hash)]
+pub enum Table {
+    /// The corners.
+    Corners,
+    /// Where each ring ends.
+    Rings,
+    /// Where the rings of each polygon end.
+    Polygons,
+    /// The boxes, and the parts of the edge list that they stand for.
+    Nodes,
+    /// The edge list.
+    Edges,
+}
+
+impl Refusal {
+    /// The refusal's number: 1 to 6 come from what was handed over, 11 to 15 from the state of the plan.
+    pub const fn number(self) -> u8 {
+        match self {
+            Refusal::TextTooLong => 1,
+            Refusal::BadLine(_) => 2,
+            Refusal::Uneven => 3,
+            Refusal::TooMany => 4,
+            Refusal::NoSuchCorner => 5,
+            Refusal::PlaceOutOfRange => 6,
+            Refusal::TableTooShort(_) => 11,
+            Refusal::PlanOutOfRange => 12,
+            Refusal::UndoFull => 13,
+            Refusal::NothingToUndo => 14,
+            Refusal::Unsound => 15,
+        }
+    }
+
+    /// The refusal of a number that the library answers, with the table that 11 names. The exports answer no line (2) and no text (1).
+    pub(crate) fn of_number(number: usize, table: usize) -> Refusal {
+        match number {
+            3 => Refusal::Uneven,
+            4 => Refusal::TooMany,
+            5 => Refusal::NoSuchCorner,
+            6 => Refusal::PlaceOutOfRange,
+            11 => Refusal::TableTooShort(Table::of_number(table)),
+            12 => Refusal::PlanOutOfRange,
+            13 => Refusal::UndoFull,
+            14 => Refusal::NothingToUndo,
+            15 => Refusal::Unsound,
+            other => {
+                panic!("the library linked is not that of this crate: it refused with {other}")
+            }
+        }
+    }
+}
+
+impl Table {
+    fn of_number(number: usize) -> Table {
+        match number {
+            1 => Table::Corners,
+            2 => Table::Rings,
+            3 => Table::Polygons,
+            4 => Table::Nodes,
+            5 => Table::Edges,
+            other => panic!("the library linked is not that of this crate: it names table {other}"),
+        }
+    }
+
+    fn name(self) -> &'static str {
+        match self {
+            Table::Corners => "corners",
+            Table::Rings => "rings",
+            Table::Polygons => "polygons",
+            Table::Nodes => "nodes",
+            Table::Edges => "edges",
+        }
+    }
+}
+
+/// The number, what is wrong, and what to do about it.
+impl fmt::Display for Refusal {
+    fn fmt(&self, formatter: &mut fmt::Formatter<'_>) -> fmt::Result {
+        write!(formatter, "refusal {}: ", self.number())?;
+        match self {
+            Refusal::TextTooLong => write!(
+                formatter,
+                "the text has more than {MAX_TEXT} bytes; hand a larger plan over as rings"
+            ),
+            Refusal::BadLine(line) => write!(
+                formatter,
+                "line {line} breaks the format; a line is `plan`, alone or with `list` or `tree`, then `outer`, `hole` or `node`, \
+                 or `at` with x and y, its fields parted by single tabs and its end a line feed"
+            ),
+            Refusal::Uneven => formatter.write_str(
+                "the plan's tables do not fit together; the ring lengths have to sum to the corners and, in a list, the ring counts \
+                 to the rings, with a ring in each polygon",
+            ),
+            Refusal::TooMany => write!(
+                formatter,
+                "too many entries; there may be {MAX_CORNERS} corners, {MAX_RINGS} rings, {MAX_POLYGONS} polygons, {MAX_POINTS} \
+                 listed points and {MAX_UNDO} moves to undo: split what has more"
+            ),
+            Refusal::NoSuchCorner => formatter
+                .write_str("there is no such corner; they are numbered from 0 in the plan's order"),
+            Refusal::PlaceOutOfRange => write!(
+                formatter,
+                "the new place is out of range; both its coordinates have to lie within {MAX_COORD}, either sign"
+            ),
+            Refusal::TableTooShort(table) => write!(
+                formatter,
+                "the library finds the table of {} too short; it is not the one that belongs to this crate: build both from one state \
+                 of the repository",
+                table.name()
+            ),
+            Refusal::PlanOutOfRange => write!(
+                formatter,
+                "the plan has a corner out of range, so none can be moved; prepare it again with every coordinate within {MAX_COORD}, \
+                 either sign"
+            ),
+            Refusal::UndoFull => write!(
+                formatter,
+                "there is no room to record the move; undo one, or prepare the plan with room for more moves ({MAX_UNDO} at most)"
+            ),
+            Refusal::NothingToUndo => {
+                formatter.write_str("there is nothing to undo; every move has been taken back")
+            }
+            Refusal::Unsound => formatter.write_str(
+                "the tables are not such as preparing and corrections leave; prepare the plan again",
+            ),
+        }
+    }
+}
+
+impl Error for Refusal {}
