@@ -58,9 +58,19 @@ use Rattle.nodes.proofs.refit_leaf.Statement as stated
 use Rattle.nodes.proofs.refit_leaf.Code as code
 
 abbrev stayed : Stays (f.ended .signature .params) (f.ended .kept)
-stayed =
-    (stay-slice (0 ∷ []) tt (plain (λ _. T.the-row)), (stay-none-slice (1 ∷ []) tt (plain (λ _. i64)) yes, (stay-none-slice (2 ∷ []) tt (plain (λ _. usize)) yes, (stay-none-slice (3 ∷ []) tt (plain (λ _. usize)) yes,
-    (stay-none (λ _. usize) yes, (stay-none (λ _. usize) yes, (stay-none (λ _. usize) yes, tt)))))))
+stayed = (
+  stay-slice (0 ∷ []) tt (plain (λ _. T.the-row)),
+  (
+    stay-none-slice (1 ∷ []) tt (plain (λ _. i64)) yes,
+    (
+      stay-none-slice (2 ∷ []) tt (plain (λ _. usize)) yes,
+      (
+        stay-none-slice (3 ∷ []) tt (plain (λ _. usize)) yes,
+        (stay-none (λ _. usize) yes, (stay-none (λ _. usize) yes, (stay-none (λ _. usize) yes, tt))),
+      ),
+    ),
+  ),
+)
 
 abbrev machine : Node → Val
 machine m = LL.tuple-val T.the-type T′.the-laws (T.the-type .to m)
@@ -202,9 +212,19 @@ module _ {M : Type 1} (𝓤 : URA M) (H : Heap 𝓤) (A : Atoms 𝓤) (W : Given
 refit-leaf-meets : {M : Type 1} (𝓤 : URA M) (H : Heap 𝓤) (A : Atoms 𝓤) (W : Given 𝓤 H A) (mem : Memory → SProp 𝓤) (run : Routine → Fun 𝓤) (𝓣 : Tables 𝓤 H) → Triple 𝓤 (𝓣 .C #nodes·fitted-leaf) (Fitted 𝓤 H A mem run)
     → Meets 𝓤 H A f.signature (WpFn 𝓤 H (𝓣 .C) (𝓣 .Λ) code.function) (f.spec 𝓤 H A mem run)
 refit-leaf-meets 𝓤 H A W mem run 𝓣 known =
-    walk-meets 𝓤 H A f.ended stayed W
-    (goes-slice 𝓤 H A W 4 0 tt (plain (λ _. T.the-row)), (goes-none-slice 𝓤 H A W 4 (1 ∷ []) tt (plain (λ _. i64)) yes, (goes-none-slice 𝓤 H A W 4 (2 ∷ []) tt (plain (λ _. usize)) yes, (goes-none-slice 𝓤 H A W 4 (3 ∷ []) tt (plain (λ _. usize)) yes,
-    (goes-none 𝓤 H A W 4 (λ _. usize) yes (λ κs x f. refl), (goes-none 𝓤 H A W 4 (λ _. usize) yes (λ κs x f. refl), (goes-none 𝓤 H A W 4 (λ _. usize) yes (λ κs x f. refl), tt)))))))
+    walk-meets 𝓤 H A f.ended stayed W (
+      goes-slice 𝓤 H A W 4 0 tt (plain (λ _. T.the-row)),
+      (
+        goes-none-slice 𝓤 H A W 4 (1 ∷ []) tt (plain (λ _. i64)) yes,
+        (
+          goes-none-slice 𝓤 H A W 4 (2 ∷ []) tt (plain (λ _. usize)) yes,
+          (
+            goes-none-slice 𝓤 H A W 4 (3 ∷ []) tt (plain (λ _. usize)) yes,
+            (goes-none 𝓤 H A W 4 (λ _. usize) yes (λ κs x f. refl), (goes-none 𝓤 H A W 4 (λ _. usize) yes (λ κs x f. refl), (goes-none 𝓤 H A W 4 (λ _. usize) yes (λ κs x f. refl), tt))),
+          ),
+        ),
+      ),
+    )
     (f.clauses 𝓤 H A mem run) (WpFn 𝓤 H (𝓣 .C) (𝓣 .Λ) code.function) (WpFn-mono 𝓤 H (W .laws) 𝓣 code.function)
     (refit-leaf-walks 𝓤 H A W mem run (𝓣 .C) (𝓣 .Λ) (fmOf 𝓤 H (W .laws) 𝓣) known)
 
