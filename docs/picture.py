@@ -2,7 +2,8 @@
 """picture.py INPUT OUTPUT > SVG: draws a plan and its points, coloured by what the program findspot replied.
 
 INPUT is what the program read and OUTPUT what it wrote for it. Polygons are drawn as document 01 has them: the outer ring by its winding
-number, less its holes. A tree's rings are drawn by parity, which is right where none crosses itself. Points on the grid are round, points
+number, less its holes. A tree's rings are drawn by parity, which is right where none crosses itself or goes round
+twice. Points on the grid are round, points
 on the half-grid square.
 """
 import sys
@@ -189,8 +190,14 @@ def picture(kind, polygons, points):
 def main():
     if len(sys.argv) != 3:
         sys.exit('usage: picture.py INPUT OUTPUT > SVG')
-    kind, polygons = read_plan(sys.argv[1])
-    print('\n'.join(picture(kind, polygons, read_points(sys.argv[2]))))
+    try:
+        kind, polygons = read_plan(sys.argv[1])
+        points = read_points(sys.argv[2])
+    except (OSError, ValueError, IndexError) as error:
+        sys.exit(f'picture.py: {sys.argv[1]} and {sys.argv[2]} are not a plan and its replies: {error}')
+    if not points and not any(ring for rings in polygons for ring in rings):
+        sys.exit('picture.py: there is nothing to draw: no corner and no point')
+    print('\n'.join(picture(kind, polygons, points)))
 
 
 main()

@@ -1,0 +1,60 @@
+-- Wrong replays that the contract rules out, whatever their code is. Assumes nothing.
+use mathlib.Core.Path.{_≡_, refl, sym, ap, _∙_}
+use mathlib.Core.Bool.{true, cond}
+use mathlib.Core.List.{List, [], _++_, map}
+use Prim.Native.Nat.{ℕ, _≤_, _<_}
+use native.Mathlib.Omega.{arith}
+use borrow.Author.Tests.{le-ltb, lt-ltb}
+use lib.IntN.{ℤ, pos}
+use lib.ListN.{length, getD, drop}
+use lib.Seq.{drop-append-seam}
+use Rattle.rules.specs.declared.Refusal.{Refusal}
+use Rattle.rules.specs.declared.State.{State}
+use Rattle.rules.specs.Plans.{Plan, planInRange}
+use Rattle.prepare.specs.declared.Preparing as Preparing
+use Rattle.prepare.specs.declared.Preparing.the-variants.{Ready}
+use Rattle.prepare.specs.Answers.{preparing}
+use Rattle.prepare.specs.Tables.{Tables, roomOf}
+use Rattle.model.specs.Coded.{callOf}
+use Rattle.model.specs.Model.{modelAfter}
+use Rattle.model.specs.Prepared.{Prepared}
+use Rattle.model.specs.Demand.{AsFirst, lent}
+use Rattle.replay.specs.declared.Outcome.{Outcome}
+use Rattle.replay.specs.declared.Outcome.the-variants.{Ran, Refused, AnswersTooShort}
+use Rattle.replay.specs.Replays.{Replayed, Lent, endState, judged, replaying, Replays}
+
+module _ (plan : Plan) (before after : Lent) (calls : List (List ℤ)) (r : Outcome) (R : Replays plan before after calls r) where
+  -- calls run although their answers have no room, or prepare's refusal first
+  pub short-named : length (before .answers) < length calls → r ≡ AnswersTooShort
+  unfolding replaying
+  short-named h = R .answer ∙ ap (λ b. cond b AnswersTooShort (judged (preparing plan (roomOf (before .tables))) (endState plan (length (before .undo)) calls))) (lt-ltb (length (before .answers)) (length calls) h)
+
+  module _ (room : length calls ≤ length (before .answers)) where
+    judged-is : r ≡ judged (preparing plan (roomOf (before .tables))) (endState plan (length (before .undo)) calls)
+    unfolding replaying
+    judged-is = R .answer ∙ ap (λ b. cond b AnswersTooShort (judged (preparing plan (roomOf (before .tables))) (endState plan (length (before .undo)) calls))) (le-ltb (length (before .answers)) (length calls) room)
+
+    -- refusal throughout: a plan that preparing takes is run, to the state that the model's stack gives
+    pub not-refused : (state : State) (nodes : ℕ) → preparing plan (roomOf (before .tables)) ≡ Ready state nodes → r ≡ Ran (endState plan (length (before .undo)) calls)
+    not-refused state nodes e = judged-is ∙ ap (λ q. judged q (endState plan (length (before .undo)) calls)) e
+
+    -- another number than preparing's
+    pub refusal-kept : (refusal : Refusal) → preparing plan (roomOf (before .tables)) ≡ Preparing.the-variants.Refused refusal → r ≡ Refused refusal
+    refusal-kept refusal e = judged-is ∙ ap (λ q. judged q (endState plan (length (before .undo)) calls)) e
+
+-- tables written before a refusal
+pub refusal-writes-nothing : (plan : Plan) (before after : Lent) (calls : List (List ℤ)) (refusal : Refusal) → Replays plan before after calls (Refused refusal) → after ≡ before
+refusal-writes-nothing plan before after calls refusal R = R .tables
+
+module _ (plan : Plan) (calls : List (List ℤ)) (d : Prepared) (was : List ℤ) (d′ : Prepared) (is : List ℤ) (R : Replayed plan calls d was d′ is) where
+  -- moves merely acknowledged: corners that the model moves do not stay as they were
+  pub moves-acknowledged : (modelAfter plan (lent d) (map callOf calls) .corners ++ drop (length (plan .coordinates)) (d .corners) ≡ d .corners → ⊥) → d′ .corners ≡ d .corners → ⊥
+  moves-acknowledged moved stayed = moved (sym (R .corners) ∙ stayed)
+
+  -- boxes or corners that are not as first prepared once all moves are undone
+  pub all-undone : modelAfter plan (lent d) (map callOf calls) .stack ≡ [] → (d′ .boxes ≡ d .boxes) × (d′ .corners ≡ d .corners) × (d′ .edges ≡ d .edges)
+  all-undone e = let first = R .undone e in (first .boxes, first .corners, first .edges)
+
+  -- records that are lost or left over: the depth is how many entries the model's stack has
+  pub depth-told : d′ .state .«undo_depth» ≡ length (modelAfter plan (lent d) (map callOf calls) .stack)
+  depth-told = ap (λ (s : State). s .«undo_depth») (R .leaves .state)
