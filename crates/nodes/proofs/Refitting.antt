@@ -14,9 +14,9 @@ use Rattle.boxes.specs.Boxes.{boxOf, rectAt, rowOf, Names}
 use Rattle.index.specs.Parts.{firstAt, countAt, childAt}
 use Rattle.index.specs.Sound.{Smallest, IndexSound}
 use Rattle.index.proofs.Soundness.{children-later, halves-union, part-names, smallest-rect}
-use Rattle.refit.specs.Paths.{Stops, Found}
+use Rattle.refit.specs.Paths.{Holds, Stops, Found}
 use Rattle.refit.specs.Refits.{cutBox, joined, leafFitted, refitted}
-use Rattle.refit.proofs.Fitting.{leaf-smallest}
+use Rattle.refit.proofs.Fitting.{leaf-smallest, refit-smallest}
 use Rattle.nodes.specs.declared.Node.{Node}
 use Rattle.nodes.specs.Nodes.{noNode, rectOfNode, fittedCut, fittedLeaf, Fits, boxRows, partRows, leafRefitted, cutRefitted, cutsRefitted, pathRefitted}
 use Rattle.nodes.proofs.Rows.{box-rows-length, part-rows-length, box-rows-set, part-rows-kept, rect-is, first-is, count-is, child-is}
@@ -148,3 +148,12 @@ module _ (n count : ℕ) (corners : List ℤ) (rings edges : List ℕ) (nodes : 
 
   pub path-parts : partRows (pathRefitted corners rings edges nodes path depth) ≡ partRows nodes
   path-parts = above-alike .1 ∙ leaf-parts corners rings edges nodes leaf leaf-listed
+
+  -- where the boxes off the path are the smallest for the corners as they stand now, every box is after it
+  pub path-smallest : (before : List ℤ) (boxes₀ : List (List ℤ)) → IndexSound n before rings boxes₀ (partRows nodes) edges → nodeCount n ≤ length nodes → ((p : ℕ) → p < nodeCount n → (Holds (partRows nodes) p k → ⊥) → Smallest corners rings edges (partRows nodes) (boxRows nodes) p)
+      → (p : ℕ) → p < nodeCount n → Smallest corners rings edges (partRows (pathRefitted corners rings edges nodes path depth)) (boxRows (pathRefitted corners rings edges nodes path depth)) p
+  path-smallest before boxes₀ S long good p l =
+      let fitted : Smallest corners rings edges (partRows nodes) (refitted corners (boxRows nodes) (partRows nodes) edges path stops depth) p =
+      refit-smallest n before rings boxes₀ (partRows nodes) edges S corners (λ _. ⊥) (λ _ _ _ x. x) (λ _ _ _ x. x) path count k stops depth ends way (boxRows nodes) (omega (arith, box-rows-length nodes)) (λ q t _ off. good q t off) p l (λ x. x) in
+      subst (λ (rows : List (List ℕ)). Smallest corners rings edges rows (boxRows (pathRefitted corners rings edges nodes path depth)) p) (sym path-parts)
+      (subst (λ (rows : List (List ℤ)). Smallest corners rings edges (partRows nodes) rows p) (sym path-alike) fitted)

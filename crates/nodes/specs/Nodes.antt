@@ -32,9 +32,9 @@ partRows [] = []
 partRows (m ∷ nodes) = partRow (m .first) (m .count) (m .child) ∷ partRows nodes
 
 -- what the box of a node's part is made of lies in the tables: n corners, the ends of their rings, and edge numbers below n
-pub record Fits (n rings-count : ℕ) (corners : List ℤ) (rings edges : List ℕ) (m : Node) : Type 0 where
+pub record Fits (n count : ℕ) (corners : List ℤ) (rings edges : List ℕ) (m : Node) : Type 0 where
   pub corners-reach : 2 * n ≤ length corners
-  pub ends : RingEnds n rings-count rings
+  pub ends : RingEnds n count rings
   pub names : Names n edges (m .first) (m .count)
 
 -- a node in the smallest box round the edges of its part

@@ -1,6 +1,6 @@
 -- `nodes::fitted_cut` meets its contract.
 use borrow.Author.Needs.{needs}
-use mathlib.Core.Path.{ap, _∙_}
+use mathlib.Core.Path.{_∙_}
 use Rattle.geom.specs.Boxes.{unionOf}
 use Rattle.nodes.specs.Nodes.{inBox}
 use Rattle.nodes.proofs.fitted_cut.Statement.{statement}
@@ -22,7 +22,7 @@ returns : tie.Need-returns
 returns c =
     let a = c .before .before .before .before .args in
     let joined = c .before .union .ensures ∙ (λ i. unionOf (c .before .before .before .rect .ensures i) (c .before .before .rect2 .ensures i)) in
-    c .in-box .ensures ∙ ap (inBox (a .node)) joined
+    c .in-box .ensures ∙ (λ i. inBox (a .node) (joined i))
 
 pub fitted-cut-spec : {M : Type 1} → statement M
 fitted-cut-spec =

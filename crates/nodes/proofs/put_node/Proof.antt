@@ -1,6 +1,6 @@
--- `nodes::put_node` meets its contract: a walk of its MIR, by hand. The place of `nodes[i]` is i times 56 past the slice's pointer; the borrow is opened, element i is taken out of the row and stored to, and the borrow is closed at the list with n at i.
+-- `nodes::put_node` meets its contract: a walk of its MIR, by hand. The place of `nodes[p]` is p times 56 past the slice's pointer; the borrow is opened, element p is taken out of the row and stored to, and the borrow is closed at the list with the node at p.
 -- Assumes nothing.
-use mathlib.Core.Path.{_≡_, refl, sym, ap, subst}
+use mathlib.Core.Path.{refl, sym, ap, subst}
 use Prim.Native.Nat.{ℕ, _<_, _^_}
 use mathlib.Core.List.{List, [], _∷_}
 use lib.ListN.{length, set, length-set}
