@@ -109,7 +109,7 @@ findspot_first findspot_first_not_outside(findspot_state state, const int64_t *c
  * accepted, and changes nothing. The state that is answered goes with the tables from then on.
  *
  * Both write corners and boxes and nothing else, and a move one row of the undo table. They visit a few hundred entries of a plan of a million
- * corners. Tables that `findspot_prepare` and these calls left never get 15.
+ * corners; at worst, with all corners at one place, as many as the plan has. Tables that `findspot_prepare` and these calls left never get 15.
  */
 typedef struct {
     size_t refusal;

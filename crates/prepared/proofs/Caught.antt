@@ -16,6 +16,7 @@ use Rattle.rules.specs.declared.Refusal.the-variants.{Unsound}
 use Rattle.rules.specs.declared.Reply.{Reply}
 use Rattle.rules.specs.declared.Reply as Reply
 use Rattle.rules.specs.declared.State.{State}
+use Rattle.rules.specs.declared.Verdict as Verdict
 use Rattle.rules.specs.declared.Verdict.the-variants.{Accepted}
 use Rattle.rules.specs.Plans.{cornersOf, planReply}
 use Rattle.rules.specs.Tables.{planOf}
@@ -73,3 +74,8 @@ module _ (state : State) (corners : List ℤ) (rings polygons : List ℕ) (boxes
     place-means-earliest k e =
         let w = place-earliest (planReply (planOf state corners rings polygons)) 0 (cornersOf points) k (sym (says .exact accepted unmarked sound) ∙ e) in
         subst (λ j. Earliest (planReply (planOf state corners rings polygons)) (cornersOf points) j) (let is = w .1 in let same : w .0 ≡ k = omega arith in same) (w .2)
+
+-- 4 or 3 of a list dropped on a marked plan, or on any other: the list is refused whatever the plan and the tables are
+pub list-judged : (state : State) (corners : List ℤ) (rings polygons : List ℕ) (boxes : List (List ℤ)) (parts : List (List ℕ)) (edges : List ℕ) (points : List ℤ) (r : First) → FirstSays state corners rings polygons boxes parts edges points r
+    → state .«out_of_range» ≡ true → (refusal : Refusal) → pointsVerdict points ≡ Verdict.the-variants.Refused refusal → r ≡ AllOutside → ⊥
+list-judged state corners rings polygons boxes parts edges points r says marked refusal judged none = none-not refusal (sym none ∙ says .judged refusal judged)
