@@ -36,6 +36,7 @@ enum {
 
 /*
  * Prepared plans. The caller lends every table and keeps the state; a table is a pointer that is not NULL and how many entries it has.
+ * A table that a call writes overlaps no other table of that call, and nobody else writes any of them meanwhile.
  * A box is four numbers (least x, least y, greatest x, greatest y), a part three (first place, number of places, left child's place).
  *
  * The state: kind 0 a list, 1 a tree; out_of_range 0 or 1; how many corners, rings and polygons the plan has; how many corrections can be

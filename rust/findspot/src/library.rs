@@ -250,6 +250,8 @@ impl Tables {
         lengths: &[usize],
         counts: &[usize],
     ) -> Preparing {
+        // taken first: no reference to a list is made while a pointer to write it is held
+        let coordinates = coordinates_of(&self.corners);
         // SAFETY: each pointer and length are those of one list, which outlives the call. The lists that are written are borrowed for it alone.
         // A point is two numbers x, y by its fixed layout, so a list of points is one of twice as many numbers.
         unsafe {
@@ -262,7 +264,7 @@ impl Tables {
                 counts.as_ptr(),
                 counts.len(),
                 self.corners.as_mut_ptr().cast(),
-                coordinates_of(&self.corners),
+                coordinates,
                 self.rings.as_mut_ptr(),
                 self.rings.len(),
                 self.polygons.as_mut_ptr(),
@@ -371,12 +373,14 @@ impl Tables {
         corner: usize,
         place: Point,
     ) -> Correction {
+        // taken first: no reference to a list is made while a pointer to write it is held
+        let coordinates = coordinates_of(&self.corners);
         // SAFETY: each pointer and length are those of one list, which outlives the call. Those that are written are borrowed for it alone.
         unsafe {
             findspot_move(
                 state,
                 self.corners.as_mut_ptr().cast(),
-                coordinates_of(&self.corners),
+                coordinates,
                 self.rings.as_ptr(),
                 self.rings.len(),
                 self.boxes.as_mut_ptr(),
@@ -396,12 +400,14 @@ impl Tables {
 
     /// Takes the latest move back. Refused, it leaves all as it was.
     pub(crate) fn undo(&mut self, state: State, undo: &[[i64; 3]]) -> Correction {
+        // taken first: no reference to a list is made while a pointer to write it is held
+        let coordinates = coordinates_of(&self.corners);
         // SAFETY: as `move_corner`; the undo table is only read.
         unsafe {
             findspot_undo(
                 state,
                 self.corners.as_mut_ptr().cast(),
-                coordinates_of(&self.corners),
+                coordinates,
                 self.rings.as_ptr(),
                 self.rings.len(),
                 self.boxes.as_mut_ptr(),

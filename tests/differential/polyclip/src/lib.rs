@@ -1,4 +1,4 @@
-//! The original's location code, compiled from its own source, which `build.rs` fetches.
+//! The original's location code, compiled from its own source, which `build.rs` copies from its folder.
 //!
 //! What stands here is glue alone: stand-ins for the `libm` crate and for two modules that the
 //! source names and that no location query enters.
