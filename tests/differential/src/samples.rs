@@ -79,9 +79,10 @@ pub struct Sample {
 pub fn samples() -> Vec<Sample> {
     let mut samples = vec![worked_example(), bare_header(), no_rings(), no_points()];
     samples.extend(named());
-    samples.extend(RAYS.map(one_ray));
+    samples.extend(RAYS.map(|ray| one_ray(Kind::List, ray)));
+    samples.extend(RAYS.map(|ray| one_ray(Kind::Tree, ray)));
     samples.extend([Kind::List, Kind::Tree].map(every_reply));
-    samples.extend([beyond_range(), ends_of_64_bits()]);
+    samples.extend([beyond_range(), ends_of_64_bits(), far_points()]);
     samples.extend([most_corners(), most_rings(), most_bytes()]);
     samples.extend(generated());
     samples.extend(refused::samples());
@@ -194,12 +195,19 @@ fn named() -> Vec<Sample> {
     NAMED.into_iter().zip(cases).map(sample).collect()
 }
 
-/// The square at the side of a plan's extent to which the ray runs, with points whose ray is this one, on both grids.
-fn one_ray(ray: Ray) -> Sample {
+/// The square, in a tree with a ring inside it, at the side of a plan's extent to which the ray runs, with points whose ray is this one,
+/// on both grids.
+fn one_ray(kind: Kind, ray: Ray) -> Sample {
     let far = [(-100, -100), (-100, 110)].map(|(x, y)| vec![(x, y), (x + 1, y), (x, y - 1)]);
-    let [below, above] = far;
-    let polygons = [SQUARE.to_vec(), below, above].map(|ring| vec![turned(ray, 10, &ring)]);
-    let plan = Plan::list(&polygons);
+    let [below, above] = far.map(|ring| turned(ray, 10, &ring));
+    let [square, inner] = [SQUARE, HOLE].map(|ring| turned(ray, 10, &ring));
+    let (plan, name) = match kind {
+        Kind::List => (
+            Plan::list(&[square, below, above].map(|ring| vec![ring])),
+            "ray",
+        ),
+        Kind::Tree => (Plan::tree(&[square, inner, below, above]), "tree_ray"),
+    };
     let points = [
         (1, 5),
         (0, 5),
@@ -210,6 +218,9 @@ fn one_ray(ray: Ray) -> Sample {
         (-3, 0),
         (-3, 10),
     ];
+    // Of the tree only: in the ring inside the square, on it and at its corner.
+    let inner_points = [(5, 5), (4, 5), (6, 6), (7, 5)];
+    let inner_halves = [(9, 11), (8, 11), (12, 12), (13, 11)];
     let halves = [
         (1, 1),
         (0, 1),
@@ -219,6 +230,11 @@ fn one_ray(ray: Ray) -> Sample {
         (20, 7),
         (9, -1),
     ];
+    let (mut points, mut halves) = (points.to_vec(), halves.to_vec());
+    if kind == Kind::Tree {
+        points.extend(inner_points);
+        halves.extend(inner_halves);
+    }
     let mut queries = Vec::new();
     queries.extend(
         turned(ray, 10, &points)
@@ -235,7 +251,7 @@ fn one_ray(ray: Ray) -> Sample {
         queries.iter().all(|query| chooser.ray(query) == ray),
         "{ray:?}"
     );
-    let name = format!("ray_{ray:?}").to_lowercase();
+    let name = format!("{name}_{ray:?}").to_lowercase();
     answered(&name, &plan, &queries)
 }
 
@@ -324,6 +340,19 @@ fn ends_of_64_bits() -> Sample {
         Query::doubled(0, 0),
     ];
     answered("ends_of_64_bits", &plan, &queries)
+}
+
+/// Points at the ends of 64 bits, on both grids, of a plan in range: numbers, and outside.
+fn far_points() -> Sample {
+    let ends = [
+        (i64::MIN, i64::MIN),
+        (i64::MIN, i64::MAX),
+        (i64::MAX, i64::MIN),
+        (i64::MAX, i64::MAX),
+    ];
+    let mut queries: Vec<Query> = ends.map(|(x, y)| Query::grid(x, y)).to_vec();
+    queries.extend(ends.map(|(x, y)| Query::doubled(x, y)));
+    answered("points_at_the_ends_of_64_bits", &holed_square(), &queries)
 }
 
 /// Teeth of 512 corners, the most that a plan may have.

@@ -4,9 +4,10 @@ use super::{MOST_BYTES, Sample, header, holed_square, input, many_points, replie
 use plans::plan::Query;
 
 /// Inputs whose plan is refused with 2: what they show, the text and the line.
-const BAD_PLANS: [(&str, &str, usize); 24] = [
+const BAD_PLANS: [(&str, &str, usize); 28] = [
     ("empty_input", "", 1),
     ("no_plan", "coin\t1\t1\n", 1),
+    ("no_plan_before_half", "half\t1\t1\n", 1),
     ("no_header", "outer\nat\t0\t0\n", 1),
     ("unknown_kind", "plan\tgrid\n", 1),
     ("trailing_tab", "plan\tlist\t\n", 1),
@@ -31,6 +32,17 @@ const BAD_PLANS: [(&str, &str, usize); 24] = [
         "plan\nouter\nat\t0\t9223372036854775808\n",
         3,
     ),
+    (
+        "number_below_64_bits",
+        "plan\nouter\nat\t-9223372036854775809\t0\n",
+        3,
+    ),
+    (
+        "corner_with_carriage_return",
+        "plan\nouter\nat\t0\t0\r\n",
+        3,
+    ),
+    ("corner_with_byte_0", "plan\nouter\nat\t0\t0\0\n", 3),
     ("unended_plan", "plan\nouter", 2),
     (
         "first_bad_line",
@@ -40,11 +52,32 @@ const BAD_PLANS: [(&str, &str, usize); 24] = [
 ];
 
 /// What follows the plan and two points in inputs that are refused with 2, after their replies: the plan has 11 lines.
-const BAD_POINTS: [(&str, &str, usize); 9] = [
+const BAD_POINTS: [(&str, &str, usize); 25] = [
     ("point_without_y", "coin\t1\n", 14),
     ("point_of_three_numbers", "coin\t1\t1\t1\n", 14),
     ("point_with_a_word", "half\t1\tone\n", 14),
     ("point_with_leading_zero", "coin\t1\t05\n", 14),
+    ("point_with_leading_zeros", "coin\t007\t5\n", 14),
+    ("half_with_leading_zeros", "half\t9\t007\n", 14),
+    ("point_with_minus_zero", "coin\t-0\t5\n", 14),
+    ("half_with_minus_zero", "half\t9\t-0\n", 14),
+    ("point_with_plus_sign", "coin\t+1\t5\n", 14),
+    ("half_with_plus_sign", "half\t9\t+1\n", 14),
+    ("point_beyond_64_bits", "coin\t9223372036854775808\t5\n", 14),
+    ("point_below_64_bits", "coin\t1\t-9223372036854775809\n", 14),
+    ("half_beyond_64_bits", "half\t9\t9223372036854775808\n", 14),
+    ("half_below_64_bits", "half\t-9223372036854775809\t9\n", 14),
+    // 2^64 + 1 and 2^128 + 9, of which the last 64 bits alone are points inside.
+    ("point_of_65_bits", "coin\t18446744073709551617\t5\n", 14),
+    (
+        "half_of_129_bits",
+        "half\t340282366920938463463374607431768211465\t3\n",
+        14,
+    ),
+    ("point_with_carriage_return", "coin\t1\t5\r\n", 14),
+    ("half_with_carriage_return", "half\t9\t9\r\n", 14),
+    ("point_with_byte_0", "coin\t1\t5\0\n", 14),
+    ("half_with_byte_0", "half\t9\0\t9\n", 14),
     ("corner_after_point", "at\t1\t1\n", 14),
     ("blank_line_after_point", "\ncoin\t1\t5\n", 14),
     ("unended_point", "coin\t1\t5", 14),
