@@ -64,10 +64,8 @@ impl Correction<'_> {
         })?;
         let edges = [corner, previous_corner(plan, corner)];
         for place in 0..before.boxes.len() {
-            let [first, count, _] = before.parts[place];
-            let mut below = before.edges[first..first + count].iter();
             let same = before.boxes[place] == after.boxes[place];
-            hold(same || below.any(|edge| edges.contains(edge)), || {
+            hold(same || is_above(before, place, &edges), || {
                 format!("the box of node {place}, which has none of the edges, was written")
             })?;
         }
@@ -96,6 +94,15 @@ impl Correction<'_> {
             }
         }
     }
+}
+
+/// Whether a node has one of these edges among its own.
+fn is_above(tables: &Tables, node: usize, edges: &[usize]) -> bool {
+    let part = tables.parts.get(node).and_then(|&[first, count, _]| {
+        let end = first.checked_add(count)?;
+        tables.edges.get(first..end)
+    });
+    part.is_some_and(|part| part.iter().any(|edge| edges.contains(edge)))
 }
 
 /// That a fact holds, or else what is the case instead.

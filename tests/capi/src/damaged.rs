@@ -1,20 +1,24 @@
 //! Input of random and extreme numbers through every export: states, tables, plans handed in, undo records, lists of points and texts.
 //!
 //! Whatever it is, each call ends, reads and writes nothing beside what it is lent, writes nothing that it is only shown, and nothing at
-//! all where it refuses; and each refusal number comes under its condition alone.
+//! all where it refuses; and its answer is the one that [`due`] names, wherever document 01 settles it.
 
 use crate::damage::WAYS;
+use crate::due::{self, Due, Judged, MOST_CORNERS, MOST_POINTS, MOST_RINGS};
 use crate::entry::locate_text;
+use crate::expected;
 use crate::exports::{self, Correctable, Handed, Lent, Shown, State};
 use crate::guard::{Guarded, Side};
-use crate::prepared::{Prepared, Tables, node_count};
-use crate::reader::{LONGEST, read};
+use crate::prepared::{Prepared, Tables};
+use crate::reader::LONGEST;
+use crate::soundness;
 use crate::writer;
 use plans::generate::{self, Case, Size};
 use plans::model::Call;
-use plans::plan::{GRID_LIMIT, Kind, Plan, Query, within};
+use plans::plan::{GRID_LIMIT, Plan, Query};
 use plans::random::Random;
 use std::collections::BTreeMap;
+use std::fmt::Debug;
 
 /// What is damaged.
 #[derive(Clone, Copy, Debug, PartialEq, Eq, PartialOrd, Ord)]
@@ -36,12 +40,6 @@ pub const SORTS: [Sort; 6] = [
     Sort::Plan,
     Sort::Text,
 ];
-
-/// Document 01's ceilings.
-const MOST_CORNERS: usize = 1 << 20;
-const MOST_RINGS: usize = 1 << 16;
-const MOST_POINTS: usize = 1 << 16;
-const MOST_RECORDS: u64 = 1 << 16;
 
 /// So many trials after one another damage the same plan.
 const TRIALS_A_PLAN: usize = 16;
@@ -99,15 +97,29 @@ const EXTREME_COORDINATES: [i64; 13] = [
     i64::MAX,
 ];
 
-/// How often each answer came up, by sort of damage and call.
+/// How often each answer came up, by sort of damage and call, and how often each ground decided which one was due.
 #[derive(Default)]
 pub struct Answers {
     pub counts: BTreeMap<(Sort, &'static str, i64), u64>,
+    pub grounds: BTreeMap<(&'static str, &'static str), u64>,
 }
 
 impl Answers {
     fn add(&mut self, sort: Sort, call: &'static str, answer: i64) {
         *self.counts.entry((sort, call, answer)).or_default() += 1;
+    }
+
+    /// Asserts that an answer is due, or may be given where document 01 leaves it open.
+    fn judge<T: PartialEq + Debug>(
+        &mut self,
+        call: &'static str,
+        due: &Due<T>,
+        answer: &T,
+        may_be: impl FnOnce(&T) -> bool,
+    ) {
+        let allowed = due.allows(answer, may_be);
+        assert!(allowed, "{call}: {answer:?} where {due:?} is due");
+        *self.grounds.entry((call, due.ground())).or_default() += 1;
     }
 
     /// How often a call was answered so.
@@ -166,6 +178,38 @@ struct Trial {
     queries: Vec<Query>,
     points: Vec<i64>,
     call: Call,
+}
+
+impl Trial {
+    /// Asserts what an accepted correction of sound tables leaves: the corner at its place, the tables sound, a record more or one fewer.
+    fn assert_made(&self, state: State, after: &Tables) {
+        let mut plan = soundness::plan_in(self.state, &self.tables).expect("sound tables");
+        let mut undo = self.tables.undo.clone();
+        let depth = self.state.undo_depth as usize;
+        let (corner, (x, y), undo_depth) = match self.call {
+            Call::Move { corner, to } => {
+                let (x, y) = (
+                    plan.coordinates[2 * corner],
+                    plan.coordinates[2 * corner + 1],
+                );
+                undo[depth] = [corner as i64, x, y];
+                (corner, to, depth + 1)
+            }
+            Call::Undo => {
+                let [corner, x, y] = undo[depth - 1];
+                (corner as usize, (x, y), depth - 1)
+            }
+        };
+        plan.coordinates[2 * corner] = x;
+        plan.coordinates[2 * corner + 1] = y;
+        let due = State {
+            undo_depth: undo_depth as u64,
+            ..self.state
+        };
+        assert_eq!(state, due);
+        assert_eq!(after.undo, undo);
+        assert_eq!(soundness::check_tables(state, after), Ok(plan));
+    }
 }
 
 /// The damage of a seed, with memory to lend.
@@ -268,13 +312,21 @@ impl Trials {
         if self.forbid {
             memory.set_tables(true);
         }
+        let (whole, alone) = (
+            Judged::whole(*state, tables),
+            Judged::plan_alone(*state, tables),
+        );
+        let is_answer = |answer: &i64| [0, 1, 2, -15].contains(answer);
         let shown = memory.shown();
         for &query in queries {
             let boxes = exports::locate(*state, shown, query);
-            assert!([0, 1, 2, -15].contains(&boxes), "{boxes}");
+            let due = due::place(*state, &whole, query);
+            self.answers.judge("locate", &due, &boxes, is_answer);
             self.answers.add(*sort, "locate", boxes);
             let rings = exports::locate_by_rings(*state, shown, query);
-            assert!([0, 1, 2, -15].contains(&rings), "{rings}");
+            let due = due::place(*state, &alone, query);
+            self.answers
+                .judge("locate_by_rings", &due, &rings, is_answer);
             self.answers.add(*sort, "locate_by_rings", rings);
         }
         let first = exports::first_not_outside(*state, shown, memory.points.as_slice()).answer();
@@ -282,12 +334,13 @@ impl Trials {
             memory.set_tables(false);
         }
         assert!(memory.holds(tables), "a look-up wrote");
-        let answer = list_number(first, points.len() / 2);
-        match due_list(*state, points.len()) {
-            0 => assert!([-1, 0, 15].contains(&answer), "{answer}"),
-            due => assert_eq!(answer, due),
-        }
-        self.answers.add(*sort, "first_not_outside", answer);
+        let due = due::first(*state, &whole, points);
+        self.answers
+            .judge("first_not_outside", &due, &first, |first| {
+                may_be_first(first, points)
+            });
+        let number = list_number(first);
+        self.answers.add(*sort, "first_not_outside", number);
     }
 
     /// Makes the correction, which writes nothing where it is refused.
@@ -302,23 +355,25 @@ impl Trials {
         let memory = &mut self.memory;
         memory.hold(tables, self.side);
         let corrected = exports::correct(*state, memory.correctable(), *call);
-        let due = due_correction(*state, tables.undo.len(), *call);
-        match due {
-            0 => assert!([0, 15].contains(&corrected.refusal), "{corrected:?}"),
-            due => assert_eq!(corrected.refusal, due),
-        }
+        let name = match call {
+            Call::Move { .. } => "move",
+            Call::Undo => "undo",
+        };
+        let due = due::correction(*state, tables, *call);
+        self.answers
+            .judge(name, &due, &corrected.refusal, |number| {
+                [0, 15].contains(number)
+            });
         if corrected.refusal > 0 {
             assert_eq!(corrected.state, *state);
             assert!(memory.holds(tables), "a refusal wrote");
+        } else if let Due::Sound(_) = due {
+            trial.assert_made(corrected.state, &memory.tables());
         }
         assert!(
             memory.holds_shown(tables, *call),
             "what is shown was written"
         );
-        let name = match call {
-            Call::Move { .. } => "move",
-            Call::Undo => "undo",
-        };
         self.answers.add(*sort, name, corrected.refusal as i64);
     }
 
@@ -347,7 +402,7 @@ impl Trials {
             memory.set_plan(false);
         }
         assert!(memory.holds_plan(&plan), "the plan handed in was written");
-        let (refusal, table, nodes) = due_preparing(kind, &plan, &tables);
+        let (refusal, table, nodes) = due::preparing(kind, &plan, &tables);
         assert_eq!(
             (preparing.refusal, preparing.table, preparing.nodes),
             (refusal, table, nodes)
@@ -384,16 +439,8 @@ impl Trials {
             memory.text.forbid_writing(false);
         }
         assert!(memory.text.as_slice() == text, "the text was written");
-        let refused = match read(&text) {
-            Ok(_) => 0,
-            Err(crate::reader::Refusal::TooLong) => -1,
-            Err(crate::reader::Refusal::Line(_)) => -2,
-        };
-        if refused == 0 {
-            assert!([0, 1, 2].contains(&answer), "{answer}");
-        } else {
-            assert_eq!(answer, refused);
-        }
+        let due = expected::answers(&text, &[(query.x, query.y)]);
+        assert_eq!([answer], due[..], "{}", text.escape_ascii());
         self.answers.add(Sort::Text, "locate_text", answer);
     }
 }
@@ -418,6 +465,19 @@ impl Memory {
             && self.parts.as_slice() == tables.parts
             && self.edges.as_slice() == tables.edges
             && self.undo.as_slice() == tables.undo
+    }
+
+    /// The tables as they now stand.
+    fn tables(&self) -> Tables {
+        Tables {
+            corners: self.corners.as_slice().to_vec(),
+            rings: self.rings.as_slice().to_vec(),
+            polygons: self.polygons.as_slice().to_vec(),
+            boxes: self.boxes.as_slice().to_vec(),
+            parts: self.parts.as_slice().to_vec(),
+            edges: self.edges.as_slice().to_vec(),
+            undo: self.undo.as_slice().to_vec(),
+        }
     }
 
     /// Whether the tables that a correction only reads are as they were held.
@@ -494,92 +554,24 @@ impl Memory {
     }
 }
 
-/// Whether six numbers are a state's.
-fn is_state(state: State) -> bool {
-    state.kind <= 1 && state.out_of_range <= 1
-}
-
-/// An answer to a list of so many points as a number: 0 where a point is found, -1 where none is, or the refusal number.
-fn list_number(answer: Result<Option<usize>, u64>, points: usize) -> i64 {
+/// An answer to a list of points as a number: 0 where a point is found, -1 where none is, or the refusal number.
+fn list_number(answer: Result<Option<usize>, u64>) -> i64 {
     match answer {
         Ok(None) => -1,
-        Ok(Some(place)) => {
-            assert!(place < points, "{place} of {points} points");
-            0
-        }
+        Ok(Some(_)) => 0,
         Err(number) => number as i64,
     }
 }
 
-/// The refusal number of a list of so many coordinates that needs no table, or 0: then it is answered or gets 15.
-fn due_list(state: State, coordinates: usize) -> i64 {
-    if !is_state(state) {
-        15
-    } else if coordinates / 2 > MOST_POINTS {
-        4
-    } else if coordinates % 2 == 1 {
-        3
-    } else {
-        0
-    }
-}
-
-/// The refusal number of a correction that needs no table, or 0: then it is accepted or gets 15.
-fn due_correction(state: State, rows: usize, call: Call) -> u64 {
-    if !is_state(state) {
-        return 15;
-    }
-    if state.out_of_range == 1 {
-        return 12;
-    }
-    match call {
-        Call::Move { corner, to: (x, y) } => {
-            let in_range = within(x, GRID_LIMIT) && within(y, GRID_LIMIT);
-            if corner as u64 >= state.corners {
-                5
-            } else if !in_range {
-                6
-            } else if state.undo_depth >= MOST_RECORDS.min(rows as u64) {
-                13
-            } else {
-                0
-            }
-        }
-        Call::Undo if state.undo_depth == 0 => 14,
-        Call::Undo => 0,
-    }
-}
-
-/// What preparing is due to answer: the refusal, its table and the number of nodes.
-fn due_preparing(kind: u64, plan: &Plan, tables: &Tables) -> (u64, u64, u64) {
-    let list = kind == Kind::List as u64;
-    let corners = plan.coordinates.len() / 2;
-    let (rings, polygons) = (plan.ring_lengths.len(), plan.ring_counts.len());
-    if kind > 1 {
-        return (15, 0, 0);
-    }
-    if corners > MOST_CORNERS || rings > MOST_RINGS || list && polygons > MOST_RINGS {
-        return (4, 0, 0);
-    }
-    let sum = |numbers: &[usize]| numbers.iter().map(|&number| number as u128).sum::<u128>();
-    let uneven = plan.coordinates.len() % 2 == 1 || sum(&plan.ring_lengths) != corners as u128;
-    let parted = sum(&plan.ring_counts) == rings as u128 && !plan.ring_counts.contains(&0);
-    if uneven || list && !parted {
-        return (3, 0, 0);
-    }
-    let in_range = plan.in_range();
-    let nodes = node_count(corners);
-    let short = [
-        tables.corners.len() < 2 * corners,
-        tables.rings.len() < rings,
-        list && tables.polygons.len() < polygons,
-        in_range && tables.boxes.len().min(tables.parts.len()) < nodes,
-        in_range && tables.edges.len() < corners,
-    ];
-    match short.iter().position(|&short| short) {
-        Some(table) => (11, table as u64 + 1, 0),
-        None if in_range => (0, 0, nodes as u64),
-        None => (0, 0, 0),
+/// Whether a list may be answered so on any tables: none, a listed point in range, or 15.
+fn may_be_first(answer: &Result<Option<usize>, u64>, points: &[i64]) -> bool {
+    let (points, _) = points.as_chunks::<2>();
+    match *answer {
+        Ok(None) | Err(15) => true,
+        Ok(Some(place)) => points
+            .get(place)
+            .is_some_and(|&[x, y]| Query::grid(x, y).in_range()),
+        Err(_) => false,
     }
 }
 

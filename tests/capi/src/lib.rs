@@ -5,11 +5,12 @@
 //! [`damage`] breaks them, and [`examples`] holds two of them. [`exports`] calls the library on tables that
 //! it is lent, [`prepared`] keeps such tables, and [`soundness`] holds them to items 5 and 9.
 //! [`corrections`] says what a correction may do to them. [`damaged`] hands damaged input to every call, in
-//! memory that [`guard`] keeps.
+//! memory that [`guard`] keeps, and [`due`] says what each is to answer.
 
 pub mod corrections;
 pub mod damage;
 pub mod damaged;
+pub mod due;
 pub mod entry;
 pub mod examples;
 pub mod expected;

@@ -32,6 +32,9 @@ fn main() -> Result<(), Box<dyn Error>> {
     for ((sort, call, answer), number) in &trials.answers.counts {
         println!("{sort:?}, {call}: {answer} {number} times");
     }
+    for ((call, ground), number) in &trials.answers.grounds {
+        println!("{call}: {ground} {number} times");
+    }
     println!(
         "damaged: seed {seed}, {count} trials of each of {} sorts, no stray read or write, all ended",
         SORTS.len()
