@@ -118,8 +118,8 @@ impl fmt::Display for Refusal {
             ),
             Refusal::BadLine(line) => write!(
                 formatter,
-                "line {line} breaks the format; a line is `plan`, alone or with `list` or `tree`, then `outer`, `hole` or `node`, \
-                 or `at` with x and y, its fields parted by single tabs and its end a line feed"
+                "line {line} breaks the format; mend it: `plan` comes first, alone or with `list` or `tree`, then `outer`, `hole` or \
+                 `node` for a ring and `at` with x and y for a corner, with single tabs between fields and a line feed after each line"
             ),
             Refusal::Uneven => formatter.write_str(
                 "the plan's tables do not fit together; the ring lengths have to sum to the corners and, in a list, the ring counts \
@@ -131,7 +131,7 @@ impl fmt::Display for Refusal {
                  listed points and {MAX_UNDO} moves to undo: split what has more"
             ),
             Refusal::NoSuchCorner => formatter
-                .write_str("there is no such corner; they are numbered from 0 in the plan's order"),
+                .write_str("there is no such corner; give its number in the plan's order, from 0"),
             Refusal::PlaceOutOfRange => write!(
                 formatter,
                 "the new place is out of range; both its coordinates have to lie within {MAX_COORD}, either sign"
@@ -152,7 +152,7 @@ impl fmt::Display for Refusal {
                 "there is no room to record the move; undo one, or prepare the plan with room for more moves ({MAX_UNDO} at most)"
             ),
             Refusal::NothingToUndo => {
-                formatter.write_str("there is nothing to undo; every move has been taken back")
+                formatter.write_str("there is nothing to undo; every move has been taken back, so leave the plan as it is")
             }
             Refusal::Unsound => formatter.write_str(
                 "the tables are not such as preparing and corrections leave; prepare the plan again",

@@ -4,7 +4,6 @@ use findspot::{
     Kind, Location, MAX_COORD, MAX_CORNERS, MAX_POINTS, MAX_POLYGONS, MAX_RINGS, MAX_TEXT,
     MAX_UNDO, Plan, Point, Prepared, Refusal, locate_text,
 };
-use std::error::Error;
 
 const SQUARE: [(i64, i64); 4] = [(0, 0), (10, 0), (10, 10), (0, 10)];
 const BEYOND: Point = Point::new(MAX_COORD + 1, 0);
@@ -164,41 +163,4 @@ fn a_plan_out_of_range_gets_12_before_all_else() {
     assert_refused(prepared.undo(), 12);
     assert!(prepared == first);
     assert_eq!(prepared.locate(Point::new(5, 5)), Location::Outside);
-}
-
-#[test]
-fn messages_name_the_number_and_what_to_do() {
-    let refusals: [(Refusal, &str); 9] = [
-        (
-            Refusal::TextTooLong,
-            "refusal 1: the text has more than 65536 bytes",
-        ),
-        (Refusal::BadLine(7), "refusal 2: line 7 breaks the format"),
-        (
-            Refusal::Uneven,
-            "refusal 3: the plan's tables do not fit together",
-        ),
-        (Refusal::TooMany, "refusal 4: too many entries"),
-        (Refusal::NoSuchCorner, "refusal 5: there is no such corner"),
-        (
-            Refusal::PlaceOutOfRange,
-            "refusal 6: the new place is out of range",
-        ),
-        (
-            Refusal::PlanOutOfRange,
-            "refusal 12: the plan has a corner out of range",
-        ),
-        (
-            Refusal::UndoFull,
-            "refusal 13: there is no room to record the move; undo one",
-        ),
-        (
-            Refusal::NothingToUndo,
-            "refusal 14: there is nothing to undo",
-        ),
-    ];
-    for (refusal, start) in refusals {
-        let error: Box<dyn Error + Send + Sync> = refusal.into();
-        assert!(error.to_string().starts_with(start), "{error}");
-    }
 }

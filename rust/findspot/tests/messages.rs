@@ -1,0 +1,222 @@
+//! What each refusal says: its number, what is wrong, with the line or table where one is named, and what to do about it. Each is brought
+//! about through the crate; 11 and 15, which no caller can bring about, are made by hand.
+
+use findspot::{
+    Kind, MAX_COORD, MAX_CORNERS, MAX_POINTS, MAX_POLYGONS, MAX_RINGS, MAX_TEXT, MAX_UNDO, Plan,
+    Point, Prepared, Refusal, Table, locate_text,
+};
+use std::collections::BTreeSet;
+use std::error::Error;
+
+const SQUARE: [(i64, i64); 4] = [(0, 0), (10, 0), (10, 10), (0, 10)];
+const ORIGIN: Point = Point::new(0, 0);
+const BEYOND: Point = Point::new(MAX_COORD + 1, 0);
+
+/// A refusal, its number, and words that stand in what is wrong and in what to do.
+struct Said {
+    refusal: Refusal,
+    number: u8,
+    wrong: Vec<String>,
+    remedy: Vec<String>,
+}
+
+/// What is refused alike, however it is brought about.
+fn said<T, const WAYS: usize>(
+    answers: [Result<T, Refusal>; WAYS],
+    number: u8,
+    wrong: &[&str],
+    remedy: &[&str],
+) -> Vec<Said> {
+    let words = |words: &[&str]| words.iter().map(|word| word.to_string()).collect();
+    let one = |answer: Result<T, Refusal>| Said {
+        refusal: answer.err().expect("a refusal is due"),
+        number,
+        wrong: words(wrong),
+        remedy: words(remedy),
+    };
+    answers.into_iter().map(one).collect()
+}
+
+fn square(room: usize) -> Prepared {
+    Prepared::with_undo(&Plan::ring(SQUARE), room).expect("an accepted plan")
+}
+
+/// Prepares a list of tables with corners at the origin.
+fn list(corners: usize, lengths: Vec<usize>, counts: Vec<usize>) -> Result<(), Refusal> {
+    let plan = Plan::from_tables(Kind::List, vec![ORIGIN; corners], lengths, counts);
+    Prepared::new(&plan).map(|_| ())
+}
+
+fn of_texts() -> Vec<Said> {
+    let long = vec![b'\n'; MAX_TEXT + 1];
+    let bytes = format!("{MAX_TEXT} bytes");
+    let mut all = said([Plan::from_text(&long)], 1, &["text", &bytes], &["rings"]);
+    all.extend(said(
+        [locate_text(&long, ORIGIN)],
+        1,
+        &["text", &bytes],
+        &["rings"],
+    ));
+    let words = [
+        "mend",
+        "`plan`",
+        "`list`",
+        "`tree`",
+        "`outer`",
+        "`hole`",
+        "`node`",
+        "`at`",
+        "x and y",
+        "tabs",
+        "line feed",
+    ];
+    for (text, line) in [
+        (&b""[..], "line 1 "),
+        (b"plan\nouter\nat\t1\n", "line 3 "),
+        (b"plan\nouter\nat\t1\t2\nhole", "line 4 "),
+    ] {
+        all.extend(said([Plan::from_text(text)], 2, &[line, "format"], &words));
+        all.extend(said(
+            [locate_text(text, ORIGIN)],
+            2,
+            &[line, "format"],
+            &words,
+        ));
+    }
+    all
+}
+
+fn of_plans() -> Vec<Said> {
+    let uneven = [
+        list(4, vec![3], vec![1]),
+        list(4, vec![4], vec![2]),
+        list(4, vec![4], vec![1, 0]),
+    ];
+    let fitting = [
+        "ring lengths",
+        "corners",
+        "ring counts",
+        "rings",
+        "each polygon",
+    ];
+    let mut all = said(uneven, 3, &["do not fit together"], &fitting);
+    let listed = square(0).first_not_outside(&vec![ORIGIN; MAX_POINTS + 1]);
+    let roomy = Prepared::with_undo(&Plan::ring(SQUARE), MAX_UNDO + 1);
+    let many = [
+        list(MAX_CORNERS + 1, vec![MAX_CORNERS + 1], vec![1]),
+        list(0, vec![0; MAX_RINGS + 1], vec![MAX_RINGS + 1]),
+        list(0, vec![0; MAX_RINGS], vec![1; MAX_POLYGONS + 1]),
+        listed.map(|_| ()),
+        roomy.map(|_| ()),
+    ];
+    let ceilings = [
+        format!("{MAX_CORNERS} corners"),
+        format!("{MAX_RINGS} rings"),
+        format!("{MAX_POLYGONS} polygons"),
+        format!("{MAX_POINTS} listed points"),
+        format!("{MAX_UNDO} moves to undo"),
+        "split".to_string(),
+    ];
+    let ceilings: Vec<&str> = ceilings.iter().map(String::as_str).collect();
+    all.extend(said(many, 4, &["too many"], &ceilings));
+    all
+}
+
+fn of_corrections() -> Vec<Said> {
+    let coordinate = MAX_COORD.to_string();
+    let most = MAX_UNDO.to_string();
+    let order = ["number", "plan's order", "from 0"];
+    let no_corner = [square(1).move_corner(4, ORIGIN)];
+    let mut all = said(no_corner, 5, &["no such corner"], &order);
+    let far = [square(1).move_corner(0, BEYOND)];
+    all.extend(said(far, 6, &["new place", "out of range"], &[&coordinate]));
+    let mut marked = Prepared::with_undo(&Plan::ring([BEYOND]), 1).expect("it is accepted");
+    let marked = [marked.move_corner(0, ORIGIN), marked.undo()];
+    let again = ["prepare it again", coordinate.as_str()];
+    all.extend(said(marked, 12, &["corner out of range"], &again));
+    let mut full = square(1);
+    full.move_corner(0, ORIGIN).expect("there is room for one");
+    let full = [
+        full.move_corner(0, ORIGIN),
+        square(0).move_corner(0, ORIGIN),
+    ];
+    let room = ["undo one", "prepare", "room for more", most.as_str()];
+    all.extend(said(full, 13, &["no room", "record"], &room));
+    let nothing = [square(1).undo()];
+    all.extend(said(
+        nothing,
+        14,
+        &["nothing to undo"],
+        &["leave the plan as it is"],
+    ));
+    all
+}
+
+/// The crate lends tables that are long enough and keeps them sound.
+fn of_no_caller() -> Vec<Said> {
+    let tables = [
+        (Table::Corners, "table of corners"),
+        (Table::Rings, "table of rings"),
+        (Table::Polygons, "table of polygons"),
+        (Table::Nodes, "table of nodes"),
+        (Table::Edges, "table of edges"),
+    ];
+    let mut all = Vec::new();
+    for (table, name) in tables {
+        let short = [Err::<(), _>(Refusal::TableTooShort(table))];
+        all.extend(said(short, 11, &[name, "too short"], &["build both"]));
+    }
+    let unsound = [Err::<(), _>(Refusal::Unsound)];
+    all.extend(said(unsound, 15, &["tables"], &["prepare the plan again"]));
+    all
+}
+
+fn all() -> Vec<Said> {
+    let mut all = of_texts();
+    all.extend(of_plans());
+    all.extend(of_corrections());
+    all.extend(of_no_caller());
+    all
+}
+
+#[test]
+fn a_message_is_the_number_what_is_wrong_and_what_to_do() {
+    for case in all() {
+        let message = case.refusal.to_string();
+        assert_eq!(case.refusal.number(), case.number, "{message}");
+        let start = format!("refusal {}: ", case.number);
+        let text = message.strip_prefix(&start).expect(&message);
+        let parts: Vec<&str> = text.split("; ").collect();
+        let [wrong, remedy] = parts[..] else {
+            panic!("not two parts: {message}");
+        };
+        for (part, words) in [(wrong, case.wrong), (remedy, case.remedy)] {
+            for word in words {
+                assert!(part.contains(&word), "{word:?} is not in {part:?}");
+            }
+        }
+    }
+}
+
+#[test]
+fn every_number_of_document_01_is_among_them() {
+    let numbers: BTreeSet<u8> = all().iter().map(|case| case.number).collect();
+    assert!(
+        numbers
+            .into_iter()
+            .eq([1, 2, 3, 4, 5, 6, 11, 12, 13, 14, 15])
+    );
+}
+
+#[test]
+fn a_refusal_is_an_error_that_keeps_its_value() {
+    fn asked(refusal: Refusal) -> Result<(), Box<dyn Error + Send + Sync>> {
+        Err(refusal)?
+    }
+    for Said { refusal, .. } in all() {
+        let error = asked(refusal).expect_err("it is refused");
+        assert_eq!(error.to_string(), refusal.to_string());
+        assert_eq!(error.downcast_ref::<Refusal>(), Some(&refusal));
+        assert!(error.source().is_none(), "{refusal}");
+    }
+}

@@ -1,0 +1,29 @@
+//! The quick start of both READMEs is the example `quick_start`, which is run here.
+
+const EXAMPLE: &str = include_str!("../examples/quick_start.rs");
+
+mod quick_start {
+    include!("../examples/quick_start.rs");
+
+    #[test]
+    fn it_runs() {
+        assert_eq!(main(), Ok(()));
+    }
+}
+
+/// The blocks of Rust that use this crate, as they stand in a document.
+fn blocks(document: &str) -> Vec<&str> {
+    let fenced = document.split("```rust\n").skip(1);
+    fenced
+        .filter_map(|rest| rest.split("```").next())
+        .filter(|block| block.contains("findspot::"))
+        .collect()
+}
+
+#[test]
+fn both_readmes_show_it() {
+    let crates_own = include_str!("../README.md");
+    let repositorys = include_str!("../../../README.md");
+    assert_eq!(blocks(crates_own), [EXAMPLE]);
+    assert_eq!(blocks(repositorys), [EXAMPLE]);
+}
