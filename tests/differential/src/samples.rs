@@ -53,7 +53,7 @@ const NAMED: [&str; 15] = [
 ];
 
 /// The families of generated plans, in their order.
-const FAMILIES: [&str; 12] = [
+const FAMILIES: [&str; 14] = [
     "single_ring",
     "holed_polygon",
     "overlapping_holes",
@@ -66,6 +66,8 @@ const FAMILIES: [&str; 12] = [
     "tree_of_long_rings",
     "many_polygons",
     "tree_of_squares",
+    "mostly_empty_rings",
+    "squares_inside_each_other",
 ];
 
 /// An input of `findspot` and the output that is due.
