@@ -46,7 +46,10 @@ typedef struct {
     size_t kind, out_of_range, corners, rings, polygons, undo_depth;
 } findspot_state;
 
-/* The refusal number or 0; the table that refusal 11 names (1 corners, 2 rings, 3 polygons, 4 nodes, 5 edges) or 0; the number of nodes. */
+/*
+ * The refusal number or 0; the table that refusal 11 names (1 corners, 2 rings, 3 polygons, 4 nodes: boxes or parts, 5 edges) or 0; the number
+ * of nodes; the state that goes with the tables, all zeros where the plan is refused.
+ */
 typedef struct {
     size_t refusal, table, nodes;
     findspot_state state;
@@ -70,9 +73,10 @@ findspot_preparing findspot_prepare(size_t kind, const int64_t *coordinates, siz
                                     size_t part_count, size_t *edges, size_t edge_count);
 
 /*
- * Where the point lies, through the boxes: a place, or FINDSPOT_UNSOUND where a table is shorter than the state says or a number leads outside
- * its table. Tables that the library did not make may get either. They are only read; a call takes up to 600 KB of stack. The doubled
- * form takes twice the point, each coordinate within 2^41.
+ * Where the point lies, through the boxes. A point beyond 2^40 in x or y, either sign, is FINDSPOT_OUTSIDE, and so is every point of a plan that
+ * is out of range, before a table is read. Otherwise a table that is shorter than the state says gets FINDSPOT_UNSOUND. Tables that
+ * `findspot_prepare` and corrections left get the point's place; any others get some place or FINDSPOT_UNSOUND. Tables are only read; a call
+ * takes up to 600 KiB of stack. The doubled form takes twice the point, each coordinate within 2^41.
  */
 int64_t findspot_locate(findspot_state state, const int64_t *corners, size_t corner_count, const size_t *rings, size_t ring_count,
                         const size_t *polygons, size_t polygon_count, const int64_t (*boxes)[4], size_t box_count,
@@ -83,7 +87,7 @@ int64_t findspot_locate_doubled(findspot_state state, const int64_t *corners, si
                                 const int64_t (*boxes)[4], size_t box_count, const size_t (*parts)[3],
                                 size_t part_count, const size_t *edges, size_t edge_count, int64_t x, int64_t y);
 
-/* The same ring by ring. */
+/* The same ring by ring, without boxes, parts and edges. */
 int64_t findspot_locate_by_rings(findspot_state state, const int64_t *corners, size_t corner_count, const size_t *rings,
                                  size_t ring_count, const size_t *polygons, size_t polygon_count, int64_t x, int64_t y);
 int64_t findspot_locate_doubled_by_rings(findspot_state state, const int64_t *corners, size_t corner_count,
@@ -91,8 +95,8 @@ int64_t findspot_locate_doubled_by_rings(findspot_state state, const int64_t *co
                                          size_t polygon_count, int64_t x, int64_t y);
 
 /*
- * The first of the listed points x, y, x, y, .. that is not outside; point_count is the number of coordinates. Refused with 4 (more than 65,536
- * points), 3 (a y is missing) or 15, as a look-up is.
+ * The first of the listed points x, y, x, y, .. that is not outside; point_count is the number of coordinates, twice that of points. Refused,
+ * in this order, with 4 (more than 65,536 points), 3 (a y is missing), or 15 where a look-up of a point gets FINDSPOT_UNSOUND.
  */
 findspot_first findspot_first_not_outside(findspot_state state, const int64_t *corners, size_t corner_count, const size_t *rings,
                                           size_t ring_count, const size_t *polygons, size_t polygon_count,
