@@ -136,6 +136,9 @@ pub fn correction(state: State, tables: &Tables, call: Call) -> Due<u64> {
     if number > 0 {
         return Due::Settled(number);
     }
+    if soundness::is_correction_short(state, tables) {
+        return Due::Short(15);
+    }
     match soundness::check_tables(state, tables) {
         Ok(_) => Due::Sound(0),
         Err(_) => Due::Open,

@@ -74,20 +74,29 @@ fn sums(lengths: &[usize]) -> Vec<usize> {
 
 /// Whether a table of the plan's own is shorter than the state says. A tree has no polygon table.
 pub fn is_plan_short(state: State, tables: &Tables) -> bool {
-    let reach = |table: usize, entries: u64| table as u64 >= entries;
-    !reach(tables.corners.len() / 2, state.corners)
-        || !reach(tables.rings.len(), state.rings)
-        || !reach(tables.polygons.len(), polygons_of(state))
+    are_rings_short(state, tables) || (tables.polygons.len() as u64) < polygons_of(state)
 }
 
 /// Whether any table that a look-up through the boxes is lent is shorter than the state says.
 pub fn is_short(state: State, tables: &Tables) -> bool {
-    // Numbers above the edge list's length, for which N would take long, do not come to it.
-    let index_reaches = |corners: usize| {
-        tables.edges.len() >= corners
-            && tables.boxes.len().min(tables.parts.len()) >= node_count(corners)
-    };
-    is_plan_short(state, tables) || !index_reaches(state.corners as usize)
+    is_plan_short(state, tables) || is_index_short(state, tables)
+}
+
+/// Whether any table that a correction is lent is shorter than the state says. Polygons are not lent.
+pub fn is_correction_short(state: State, tables: &Tables) -> bool {
+    are_rings_short(state, tables)
+        || is_index_short(state, tables)
+        || (tables.undo.len() as u64) < state.undo_depth
+}
+
+fn are_rings_short(state: State, tables: &Tables) -> bool {
+    ((tables.corners.len() / 2) as u64) < state.corners || (tables.rings.len() as u64) < state.rings
+}
+
+fn is_index_short(state: State, tables: &Tables) -> bool {
+    let corners = state.corners as usize;
+    // N of a number above the edge list's length is not asked for: it might take long.
+    tables.edges.len() < corners || tables.boxes.len().min(tables.parts.len()) < node_count(corners)
 }
 
 /// How many polygons the polygon table has.

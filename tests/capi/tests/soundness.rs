@@ -2,7 +2,7 @@
 
 use capi::exports::State;
 use capi::prepared::{Prepared, Tables};
-use capi::soundness::{Cuts, is_plan_short, is_short};
+use capi::soundness::{Cuts, is_correction_short, is_plan_short, is_short};
 use capi::soundness::{check_index, check_tables, plan_in};
 use plans::model::Call;
 use plans::plan::{GRID_LIMIT, Kind, Plan};
@@ -192,23 +192,30 @@ fn no_number_of_the_index_is_free_but_a_leafs_child() {
 #[test]
 fn a_table_is_short_by_one_entry() {
     let whole = prepared();
-    let short: &[(Damage, bool)] = &[
-        (|_, tables| tables.corners.truncate(55), true),
-        (|_, tables| tables.rings.truncate(2), true),
-        (|_, tables| tables.polygons.truncate(1), true),
-        (|_, tables| tables.boxes.truncate(6), false),
-        (|_, tables| tables.parts.truncate(6), false),
-        (|_, tables| tables.edges.truncate(27), false),
-        (|state, _| state.corners = 1 << 63, true),
+    // For a look-up ring by ring, one through the boxes, and a correction.
+    let short: &[(Damage, [bool; 3])] = &[
+        (|_, _| {}, [false, false, false]),
+        (|_, tables| tables.corners.truncate(55), [true, true, true]),
+        (|_, tables| tables.rings.truncate(2), [true, true, true]),
+        (|_, tables| tables.polygons.truncate(1), [true, true, false]),
+        (|_, tables| tables.boxes.truncate(6), [false, true, true]),
+        (|_, tables| tables.parts.truncate(6), [false, true, true]),
+        (|_, tables| tables.edges.truncate(27), [false, true, true]),
+        (|_, tables| tables.undo.clear(), [false, false, true]),
+        (|state, _| state.corners = 1 << 63, [true, true, true]),
     ];
-    for (number, &(damage, of_plan)) in short.iter().enumerate() {
+    for (number, &(damage, due)) in short.iter().enumerate() {
         let Prepared {
             mut state,
             mut tables,
             ..
         } = whole.clone();
         damage(&mut state, &mut tables);
-        assert!(is_short(state, &tables), "{number}");
-        assert_eq!(is_plan_short(state, &tables), of_plan, "{number}");
+        let said = [
+            is_plan_short(state, &tables),
+            is_short(state, &tables),
+            is_correction_short(state, &tables),
+        ];
+        assert_eq!(said, due, "{number}");
     }
 }
