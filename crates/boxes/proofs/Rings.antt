@@ -1,14 +1,17 @@
 -- Rising ends: each corner is in one ring, and its next corner is the one that the ring's two ends give. Assumes nothing.
 use mathlib.Core.Path.{_≡_, refl, sym, ap, _∙_}
-use mathlib.Core.Bool.{cond}
+use mathlib.Core.Bool.{cond, true}
 use mathlib.Core.List.{List, [], _∷_}
-use Prim.Native.Nat.{ℕ, zero, suc, _+_, _-_, _≤_, _<_}
+use Prim.Native.Nat.{ℕ, zero, suc, _+_, _-_, _*_, _/_, _≤_, _<_}
 use native.Mathlib.Numerals.{add-one}
 use native.Mathlib.Decide.{ℕ-discrete, decLt}
 use native.Mathlib.Omega.{arith}
-use borrow.Author.Tests.{lt-ltb, le-ltb}
+use native.Mathlib.Nat.{mul-le-mul, mul-comm, add-mul, div-add-mod'}
+use borrow.Author.Tests.{lt-ltb, le-ltb, leb-true, ltb-true}
+use lib.Dec.{leb, ltb}
 use lib.ListN.{length, getD}
-use Rattle.boxes.specs.Rings.{startOf, nextIn, nextFrom, nextCorner, RingAt, RingEnds}
+use Rattle.integers.proofs.Tests.{and-true}
+use Rattle.boxes.specs.Rings.{startOf, nextIn, nextFrom, nextCorner, inRing, RingAt, RingEnds}
 
 pub start-zero : (rings : List ℕ) → startOf rings 0 ≡ 0
 unfolding startOf
@@ -26,6 +29,25 @@ pub start-pred : (rings : List ℕ) (r : ℕ) → 0 < r → startOf rings r ≡ 
 unfolding startOf
 start-pred rings zero h = absurd (omega arith)
 start-pred rings (suc r) h = let e : r ≡ suc r - 1 = omega arith in ap (λ (k : ℕ). getD rings k 0) e
+
+-- a test passed
+pub in-ring : (rings : List ℕ) (count e r : ℕ) → r < count → inRing rings r e ≡ true → RingAt rings count e r
+in-ring rings count e r h t =
+    let both = and-true (leb (startOf rings r) e) (ltb e (getD rings r 0)) t in
+    record { ring = h; from = leb-true (startOf rings r) e (both .0); to = ltb-true e (getD rings r 0) (both .1) }
+
+-- a share of the rings by e's share of the corners
+pub share-below : (e count n : ℕ) → e < n → 0 < count → e * count / n < count
+share-below e count n h some = go (decLt (e * count / n) count)
+  where
+    go : Dec (e * count / n < count) → e * count / n < count
+    go (yes l) = l
+    go (no m) = absurd (
+        let whole = div-add-mod' (e * count) n in
+        let reach : count * n ≤ e * count / n * n = mul-le-mul {n₂ = e * count / n} {m₂ = n} (omega arith) (omega arith) in
+        let less : (e + 1) * count ≤ n * count = mul-le-mul {n₂ = n} {m₂ = count} (omega arith) (omega arith) in
+        omega (arith, whole, reach, less, add-mul e 1 count, mul-comm count n)
+        )
 
 -- in a ring: the corner after e, by e's place
 pub next-within : (start end e : ℕ) → e + 1 < end → nextIn start end e ≡ e + 1

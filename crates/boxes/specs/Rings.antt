@@ -1,9 +1,9 @@
 -- Edges by their number, over the ring table of a prepared plan: where each ring ends (document 01, item 1).
 use mathlib.Core.Path.{_≡_}
-use mathlib.Core.Bool.{cond, true}
+use mathlib.Core.Bool.{Bool, cond, true, _&&_}
 use mathlib.Core.List.{List, [], _∷_}
 use Prim.Native.Nat.{ℕ, zero, suc, _+_, _*_, _≤_, _<_}
-use lib.Dec.{ltb}
+use lib.Dec.{leb, ltb}
 use lib.IntN.{ℤ}
 use lib.ListN.{length, getD}
 use Rattle.geom.specs.Range.{inRange}
@@ -32,7 +32,10 @@ nextCorner rings e = nextFrom 0 rings e
 unfoldable pub edgeOf : List ℤ → List ℕ → ℕ → Edge
 edgeOf corners rings e = (cornerAt corners e, cornerAt corners (nextCorner rings e))
 
--- corner e is in ring r
+-- corner e is in ring r: as a test, and of the first `count` rings
+abbrev pub inRing : List ℕ → ℕ → ℕ → Bool
+inRing rings r e = leb (startOf rings r) e && ltb e (getD rings r 0)
+
 pub record RingAt (rings : List ℕ) (count e r : ℕ) : Type 0 where
   pub ring : r < count
   pub from : startOf rings r ≤ e

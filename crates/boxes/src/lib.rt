@@ -3,7 +3,7 @@
 ghost use mathlib.Core.Path.{_≡_};
 ghost use Prim.Native.Nat.{_-_, _*_, _<_, _≤_};
 ghost use lib.ListN.{length, getD, set};
-ghost use Rattle.boxes.specs.Rings.{startOf, nextIn, RingAt, RingEnds};
+ghost use Rattle.boxes.specs.Rings.{startOf, nextIn, inRing, RingAt, RingEnds};
 ghost use Rattle.boxes.specs.Boxes.{edgeBox, boxOf, rectAt, rowOf, Names};
 use geom::Point;
 use geom::Rect;
@@ -38,15 +38,41 @@ pub fn start_of(rings: &[usize], r: usize) -> usize
     rings[r - 1]
 }
 
-/// The ring of corner e, where ring `last` is tried first: edges that stand together are mostly of one ring.
+// Whether corner e is in ring r.
+fn is_in(rings: &[usize], r: usize, e: usize) -> bool
+    requires { ⌜ r < length (now rings) ⌝ }
+    ensures { λ b. ⌜ b ≡ inRing (now (rings .entry)) r e ⌝ }
+{
+    (start_of(rings, r) <= e) & (e < rings[r])
+}
+
+// The ring that would hold corner e if all rings were of one length; the first where the numbers are too great to tell.
+fn ring_if_even(rings: &[usize], count: usize, e: usize) -> usize
+    requires { ⌜ (0 < count) × (count ≤ length (now rings)) × (e < getD (now rings) (count - 1) 0) ⌝ }
+    ensures { λ r. ⌜ r < count ⌝ }
+{
+    let n = rings[count - 1];
+    if 4294967296 < n {
+        return 0;
+    }
+    if 4294967296 <= count {
+        return 0;
+    }
+    e * count / n
+}
+
+/// The ring of corner e, where ring `last` is tried first, since edges that stand together are mostly of one ring, and then the one that
+/// would hold e if all rings were of one length, since many plans have rings of about one length.
 pub fn ring_near(rings: &[usize], count: usize, e: usize, last: usize) -> usize
     requires { ⌜ (last < count) × (count ≤ length (now rings)) × (e < getD (now rings) (count - 1) 0) ⌝ }
     ensures { λ r. ⌜ RingAt (now (rings .entry)) count e r ⌝ }
 {
-    if start_of(rings, last) <= e {
-        if e < rings[last] {
-            return last;
-        }
+    if is_in(rings, last, e) {
+        return last;
+    }
+    let guess = ring_if_even(rings, count, e);
+    if is_in(rings, guess, e) {
+        return guess;
     }
     ring_of(rings, count, e)
 }
@@ -100,7 +126,7 @@ pub fn part_box(
         return Rect::empty();
     }
     let edge = edges[first];
-    let mut ring = ring_of(rings, count, edge);
+    let mut ring = ring_near(rings, count, edge, 0);
     let mut b = edge_box(corners, rings, n, count, ring, edge);
     let mut k: usize = 1;
     while k < size {

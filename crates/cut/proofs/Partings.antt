@@ -38,38 +38,50 @@ module _ (lo hi v : ℕ) (xs ys : List ℕ) where
     high = λ k l u. absurd (omega arith);
   }
 
-  pub parting-out : (s i : ℕ) → Parting lo hi v xs ys s i → i < hi → v < getD ys i 0 → Parting lo hi v xs ys s (i + 1)
-  parting-out s i p h e = record {
-    from = p .from;
-    mid = omega arith;
-    to = omega arith;
-    moved = p .moved;
-    low = p .low;
-    high = each-more (λ x. v < x) s i ys (p .high) e;
-  }
+  -- a turn: the number at i changes places with the first one above v
+  module _ (s i : ℕ) (p : Parting lo hi v xs ys s i) (h : i < hi) (w : hi ≤ length xs) where
+    s-in : s < length ys
+    s-in = omega (arith, shuffled-length (p .moved))
 
-  pub parting-in : (s i : ℕ) → Parting lo hi v xs ys s i → i < hi → hi ≤ length xs → getD ys i 0 ≤ v → Parting lo hi v xs (swapped s i ys) (s + 1) (i + 1)
-  parting-in s i p h w e = record {
-    from = omega arith;
-    mid = omega arith;
-    to = omega arith;
-    moved = more {ys = ys} s i (omega arith) (omega arith) (omega arith) (omega arith) (omega (arith, shuffled-length (p .moved))) (p .moved);
-    low = each-more (λ x. x ≤ v) lo s (swapped s i ys) below (rw (swapped-first s i ys s-in i-in) e);
-    high = λ k l u. above k l u (ℕ-discrete k i);
-  }
-    where
-      s-in : s < length ys
-      s-in = omega (arith, shuffled-length (p .moved))
+    i-in : i < length ys
+    i-in = omega (arith, shuffled-length (p .moved))
 
-      i-in : i < length ys
-      i-in = omega (arith, shuffled-length (p .moved))
+    moved-on : Shuffled lo hi xs (swapped s i ys)
+    moved-on = more {ys = ys} s i (omega arith) (omega arith) (omega arith) (omega arith) (omega (arith, shuffled-length (p .moved))) (p .moved)
 
-      below : Each (λ x. x ≤ v) lo s (swapped s i ys)
-      below k l u = rw (swapped-other s i ys k (omega arith) (omega arith)) (p .low k l u)
+    below : Each (λ x. x ≤ v) lo s (swapped s i ys)
+    below k l u = rw (swapped-other s i ys k (omega arith) (omega arith)) (p .low k l u)
 
-      above : (k : ℕ) → s + 1 ≤ k → k < i + 1 → Dec (k ≡ i) → v < getD (swapped s i ys) k 0
-      above k l u (yes q) = rw (q, swapped-second s i ys i-in) (p .high s (omega arith) (omega arith))
-      above k l u (no n) = rw (swapped-other s i ys k (omega arith) n) (p .high k (omega arith) (omega arith))
+    -- past s, what stands up to i is above v
+    above : (k : ℕ) → s + 1 ≤ k → k < i + 1 → Dec (k ≡ i) → v < getD (swapped s i ys) k 0
+    above k l u (yes q) = rw (q, swapped-second s i ys i-in) (p .high s (omega arith) (omega arith))
+    above k l u (no n) = rw (swapped-other s i ys k (omega arith) n) (p .high k (omega arith) (omega arith))
+
+    -- it is above v: those in front stay
+    pub parting-out : v < getD ys i 0 → Parting lo hi v xs (swapped s i ys) s (i + 1)
+    parting-out e = record {
+      from = p .from;
+      mid = omega arith;
+      to = omega arith;
+      moved = moved-on;
+      low = below;
+      high = λ k l u. go k l u (ℕ-discrete k s);
+    }
+      where
+        go : (k : ℕ) → s ≤ k → k < i + 1 → Dec (k ≡ s) → v < getD (swapped s i ys) k 0
+        go k l u (yes q) = rw (q, swapped-first s i ys s-in i-in) e
+        go k l u (no n) = above k (omega arith) u (ℕ-discrete k i)
+
+    -- it is at most v: there is one more in front
+    pub parting-in : getD ys i 0 ≤ v → Parting lo hi v xs (swapped s i ys) (s + 1) (i + 1)
+    parting-in e = record {
+      from = omega arith;
+      mid = omega arith;
+      to = omega arith;
+      moved = moved-on;
+      low = each-more (λ x. x ≤ v) lo s (swapped s i ys) below (rw (swapped-first s i ys s-in i-in) e);
+      high = λ k l u. above k l u (ℕ-discrete k i);
+    }
 
   pub parting-done : (s i : ℕ) → Parting lo hi v xs ys s i → hi ≤ i → Parted lo hi v xs ys s
   parting-done s i p h = record {

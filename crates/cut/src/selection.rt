@@ -79,8 +79,9 @@ struct Split {
     reads: usize,
 }
 
-// Moves the numbers of [lo, hi) that are at most v in front of the others. Each number is counted when it is read to be compared with
-// v; what `swap` reads again to move it is not.
+// Moves the numbers of [lo, hi) that are at most v in front of the others. Each number changes places with the first one above v, if it
+// is above v too, so that nothing but the count of those in front hangs on the comparison: a branch that goes either way as often would
+// cost more than the swap. Each number is counted when it is read to be compared with v; what `swap` reads again to move it is not.
 fn partition(values: &mut [usize], lo: usize, hi: usize, v: usize) -> Split
     requires { ⌜ (lo ≤ hi) × (hi ≤ length (now values)) ⌝ }
     ensures { λ r. ⌜ PartedRead lo hi v (now (values .entry)) (now (values .exit)) (r .place) (r .reads) ⌝ }
@@ -90,8 +91,9 @@ fn partition(values: &mut [usize], lo: usize, hi: usize, v: usize) -> Split
     let mut i = lo;
     while i < hi {
         reads += 1;
-        if values[i] <= v {
-            swap(values, s, i);
+        let x = values[i];
+        swap(values, s, i);
+        if x <= v {
             s += 1;
         }
         i += 1;

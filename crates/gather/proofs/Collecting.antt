@@ -14,7 +14,8 @@ use Rattle.rings.specs.Crossings.{isOn, weightOf}
 use Rattle.walk.specs.declared.Cursor.{Cursor}
 use Rattle.walk.specs.declared.Query.{Query}
 use Rattle.walk.specs.Steps.{Begun, Never, Yields, Ends}
-use Rattle.walk.specs.Walks.{Walked, inRing}
+use Rattle.boxes.specs.Rings.{inRing}
+use Rattle.walk.specs.Walks.{Walked}
 use Rattle.walk.specs.Edges.{EdgeSound}
 use Rattle.walk.proofs.Sums.{ring-told}
 use Rattle.walk.proofs.Walked.{begun, stepped, ended, never-unsound, some-edges}

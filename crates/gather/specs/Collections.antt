@@ -11,10 +11,10 @@ use Rattle.rules.specs.Lists.{sumOf, anyOf}
 use Rattle.rings.specs.declared.crossings.Crossing.{Crossing}
 use Rattle.rings.specs.Crossings.{isOn, weightOf}
 use Rattle.rays.specs.Numbered.{crossingAt}
-use Rattle.boxes.specs.Rings.{RingAt, RingEnds}
+use Rattle.boxes.specs.Rings.{inRing, RingAt, RingEnds}
 use Rattle.walk.specs.declared.Query.{Query}
 use Rattle.walk.specs.Steps.{WalkSound}
-use Rattle.walk.specs.Walks.{Yielded, inRing}
+use Rattle.walk.specs.Walks.{Yielded}
 use Rattle.walk.specs.Edges.{EdgeSound}
 use Rattle.gather.specs.declared.tally.Layout.{Layout}
 use Rattle.gather.specs.declared.collect.Met.{Met}

@@ -91,8 +91,8 @@ pub fn difference(a: i64, b: i64) -> Signed
     }
 }
 
-/// The exact product of two sizes, by columns of 32 bits.
-pub fn product(u: u64, v: u64) -> Wide
+// The exact product of two sizes, by columns of 32 bits.
+fn product_by_columns(u: u64, v: u64) -> Wide
     ensures { λ r. ⌜ sizeOf r ≡ u * v ⌝ }
 {
     let u1 = u / 4294967296;
@@ -106,6 +106,18 @@ pub fn product(u: u64, v: u64) -> Wide
         hi: u1 * v1 + middle / 4294967296 + carried / 4294967296,
         lo: carried % 4294967296 * 4294967296 + low % 4294967296,
     }
+}
+
+/// The exact product of two sizes: one multiplication where both are below 2^32, as the sizes of most plans are.
+pub fn product(u: u64, v: u64) -> Wide
+    ensures { λ r. ⌜ sizeOf r ≡ u * v ⌝ }
+{
+    if u < 4294967296 {
+        if v < 4294967296 {
+            return Wide { hi: 0, lo: u * v };
+        }
+    }
+    product_by_columns(u, v)
 }
 
 /// The exact product of two signed numbers.

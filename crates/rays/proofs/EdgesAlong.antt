@@ -24,14 +24,14 @@ use Rattle.rings.proofs.EdgeCounts.{found, found-at, on-crossing, weight-crossi
 use Rattle.rays.specs.Along.{crossingAlong, noHigher, isCrossed}
 
 -- ---- turning
-negated-order : (x y : ℤ) → leZ (negℤ x) (negℤ y) ≡ leZ y x
+pub negated-order : (x y : ℤ) → leZ (negℤ x) (negℤ y) ≡ leZ y x
 negated-order x y = go (le-view y x)
   where
     go : {b : Bool} → LeView y x b → leZ (negℤ x) (negℤ y) ≡ b
     go (isLE h) = le-true (negℤ x) (negℤ y) (omega (zarith, h, neg-parts x, neg-parts y))
     go (isGT h) = le-false (negℤ x) (negℤ y) (omega (zarith, h, neg-parts x, neg-parts y))
 
-height-turned : (ray : Ray) (corner p : Point) → leZ (turned ray corner .y) (turned ray p .y) ≡ noHigher ray corner p
+pub height-turned : (ray : Ray) (corner p : Point) → leZ (turned ray corner .y) (turned ray p .y) ≡ noHigher ray corner p
 height-turned Right corner p = refl
 height-turned Left corner p = negated-order (corner .y) (p .y)
 height-turned Up corner p = negated-order (corner .x) (p .x)

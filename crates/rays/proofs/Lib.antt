@@ -1,4 +1,5 @@
 pub mod EdgesAlong
+mod Passing
 pub mod Distances
 pub mod Pruned
 pub mod Whole

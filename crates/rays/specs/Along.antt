@@ -1,6 +1,8 @@
 -- How an edge counts for a point along each of the four rays (document 01, items 3 and 6).
 use mathlib.Core.Bool.{Bool, true, false, cond}
-use lib.Signed.{leZ}
+use lib.Signed.{leZ, ltZ}
+use Rattle.integers.specs.declared.Sign.{Sign}
+use Rattle.integers.specs.declared.Sign.the-variants.{Negative, Positive}
 use Rattle.integers.specs.Signs.{signOf}
 use Rattle.geom.specs.declared.Point.{Point}
 use Rattle.predicates.specs.Turn.{onSegment}
@@ -24,6 +26,18 @@ noHigher Right corner p = leZ (corner .y) (p .y)
 noHigher Left corner p = leZ (p .y) (corner .y)
 noHigher Up corner p = leZ (p .x) (corner .x)
 noHigher Down corner p = leZ (corner .x) (p .x)
+
+-- a point farther along the ray than another
+abbrev pub isBeyond : Ray → Point → Point → Bool
+isBeyond Right a b = ltZ (b .x) (a .x)
+isBeyond Left a b = ltZ (a .x) (b .x)
+isBeyond Up a b = ltZ (b .y) (a .y)
+isBeyond Down a b = ltZ (a .y) (b .y)
+
+-- a turn to the left, or to the right
+abbrev pub leftIf : Bool → Sign
+leftIf true = Positive
+leftIf false = Negative
 
 -- an edge that gets +1 or −1
 abbrev pub isCrossed : Crossing → Bool

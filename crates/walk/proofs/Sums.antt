@@ -13,9 +13,8 @@ use Rattle.integers.proofs.Differences.{_⊖_, pos-⊖, ⊖-add}
 use Rattle.integers.proofs.Order.{+ℤ-left-comm}
 use Rattle.integers.proofs.Tests.{and-none, or-none}
 use Rattle.rules.proofs.Indexed.{bit, sumTo, countTo, anyTo}
-use Rattle.boxes.specs.Rings.{startOf, RingAt, RingEnds}
+use Rattle.boxes.specs.Rings.{startOf, inRing, RingAt, RingEnds}
 use Rattle.boxes.proofs.Rings.{start-zero, start-suc, one-ring}
-use Rattle.walk.specs.Walks.{inRing}
 
 -- ---- sums
 pub sum-same : (f g : ℕ → ℤ) (n : ℕ) → ((i : ℕ) → i < n → f i ≡ g i) → sumTo f n ≡ sumTo g n

@@ -14,7 +14,7 @@ use Rattle.integers.proofs.Tests.{and-none, or-none, not-both}
 use Rattle.rules.specs.Lists.{sumOf, countOf, anyOf}
 use Rattle.rules.proofs.Indexed.{bit, sumTo, countTo, anyTo}
 use Rattle.boxes.specs.Boxes.{edgeBox}
-use Rattle.boxes.specs.Rings.{startOf}
+use Rattle.boxes.specs.Rings.{startOf, inRing}
 use Rattle.index.proofs.Soundness.{edge-in, edge-place, edge-once, edges-counted}
 use Rattle.walk.specs.declared.Cursor.{Cursor}
 use Rattle.walk.specs.declared.Query.{Query}
@@ -22,7 +22,7 @@ use Rattle.walk.specs.declared.Step.{Step}
 use Rattle.walk.specs.declared.Step as Step
 use Rattle.walk.specs.declared.Step.the-variants.{Edge, End}
 use Rattle.walk.specs.Steps.{stepNumber, enters, WalkSound, Begun, Over, Never, Yields, Ends, Says}
-use Rattle.walk.specs.Walks.{Yielded, Walked, SomeEdges, AllMet, inRing}
+use Rattle.walk.specs.Walks.{Yielded, Walked, SomeEdges, AllMet}
 use Rattle.walk.specs.Walks.Yielded.{none, over, edge}
 use Rattle.walk.proofs.Standing.{walking-start}
 use Rattle.walk.proofs.Sums.{sum-reordered, any-count, ofRing, sum-ring, count-ring, any-ring}

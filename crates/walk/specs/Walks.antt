@@ -1,14 +1,13 @@
 -- Whole walks: which edges come, and how often (document 01, items 5 and 6).
 use mathlib.Core.Path.{_≡_}
-use mathlib.Core.Bool.{Bool, true, _&&_}
+use mathlib.Core.Bool.{true}
 use mathlib.Core.List.{List, [], _∷_}
 use Prim.Native.Nat.{ℕ, suc, _≤_, _<_}
-use lib.Dec.{eqb, leb, ltb}
+use lib.Dec.{eqb}
 use lib.IntN.{ℤ}
 use lib.ListN.{length, getD}
 use Rattle.rules.specs.Lists.{countOf}
 use Rattle.boxes.specs.Boxes.{edgeBox}
-use Rattle.boxes.specs.Rings.{startOf}
 use Rattle.walk.specs.declared.Cursor.{Cursor}
 use Rattle.walk.specs.declared.Query.{Query}
 use Rattle.walk.specs.Steps.{enters, Walking, MissedAt}
@@ -35,7 +34,3 @@ pub record SomeEdges (n : ℕ) (es : List ℕ) : Type 0 where
 pub record AllMet (n : ℕ) (corners : List ℤ) (rings : List ℕ) (query : Query) (es : List ℕ) : Type 0 where
   pub some : SomeEdges n es
   pub all : (e : ℕ) → e < n → enters query (edgeBox corners rings e) ≡ true → countOf (λ x. eqb x e) es ≡ 1
-
--- edge e is one of ring r
-abbrev pub inRing : List ℕ → ℕ → ℕ → Bool
-inRing rings r e = leb (startOf rings r) e && ltb e (getD rings r 0)

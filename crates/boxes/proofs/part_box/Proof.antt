@@ -31,21 +31,22 @@ mul-edge c = search needs
 shared-slice-read-edge : tie.Need-shared-slice-read-edge Inv-loop μ-loop
 shared-slice-read-edge c = search needs
 
-ring-of-requires : tie.Need-ring-of-requires Inv-loop μ-loop
-ring-of-requires c κs =
+ring-near-requires : tie.Need-ring-near-requires Inv-loop μ-loop
+ring-near-requires c κs =
     let s = c .before .before .before .before in
     let a = s .args in
-    searchable (a .n) (a .count) (a .rings .now) (s .pre .1 .0) (getD (a .edges .now) (a .first) 0) (s .pre .1 .1 .each (a .first) (omega arith) (omega arith))
+    let asks = searchable (a .n) (a .count) (a .rings .now) (s .pre .1 .0) (getD (a .edges .now) (a .first) 0) (s .pre .1 .1 .each (a .first) (omega arith) (omega arith)) in
+    (asks .0, asks .1, asks .2)
 
 edge-box-requires : tie.Need-edge-box-requires Inv-loop μ-loop
 edge-box-requires c κs =
     let s = c .before .before .before .before .before in
-    (s .pre .0, (s .pre .1 .0, c .ring-of .ensures))
+    (s .pre .0, (s .pre .1 .0, c .ring-near .ensures))
 
 loop-holds : tie.Need-loop-holds Inv-loop μ-loop
 loop-holds c =
     let a = c .before .before .before .before .before .before .args in
-    (omega arith, omega arith, c .before .ring-of .ensures .ring, c .edge-box .ensures ∙ sym (box-one (a .corners .now) (a .rings .now) (a .edges .now) (a .first)))
+    (omega arith, omega arith, c .before .ring-near .ensures .ring, c .edge-box .ensures ∙ sym (box-one (a .corners .now) (a .rings .now) (a .edges .now) (a .first)))
 
 add-e : tie.Need-add-e Inv-loop μ-loop
 add-e c = search needs
@@ -56,8 +57,8 @@ mul-e c = search needs
 shared-slice-read-e : tie.Need-shared-slice-read-e Inv-loop μ-loop
 shared-slice-read-e c = search needs
 
-ring-near-requires : tie.Need-ring-near-requires Inv-loop μ-loop
-ring-near-requires c κs =
+ring-near-requires-2 : tie.Need-ring-near-requires-2 Inv-loop μ-loop
+ring-near-requires-2 c κs =
     let s = c .before .before .before .before .before .before .before .before .before in
     let a = s .args in
     let l = c .before .before .loop in
@@ -67,7 +68,7 @@ ring-near-requires c κs =
 edge-box-requires-2 : tie.Need-edge-box-requires-2 Inv-loop μ-loop
 edge-box-requires-2 c κs =
     let s = c .before .before .before .before .before .before .before .before .before .before in
-    (s .pre .0, (s .pre .1 .0, c .ring-near .ensures))
+    (s .pre .0, (s .pre .1 .0, c .ring-near2 .ensures))
 
 union-requires : tie.Need-union-requires Inv-loop μ-loop
 union-requires c κs = search needs
@@ -86,7 +87,7 @@ loop-again c =
     let l = c .before .before .before .before .before .loop in (
       omega arith,
       omega arith,
-      c .before .before .ring-near .ensures .ring,
+      c .before .before .ring-near2 .ensures .ring,
       c .union .ensures ∙ (λ i. unionOf (l .inv .3 i) (c .before .edge-box2 .ensures i)) ∙ sym (box-more (a .corners .now) (a .rings .now) (a .edges .now) (a .first) (l .k) (l .inv .0)),
     )
 
@@ -107,13 +108,13 @@ part-box-spec =
     returns
     mul-edge
     shared-slice-read-edge
-    ring-of-requires
+    ring-near-requires
     edge-box-requires
     loop-holds
     add-e
     mul-e
     shared-slice-read-e
-    ring-near-requires
+    ring-near-requires-2
     edge-box-requires-2
     union-requires
     add-k

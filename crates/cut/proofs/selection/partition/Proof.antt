@@ -3,10 +3,9 @@ use Rattle.cut.proofs.selection.partition.Statement.{statement}
 use Rattle.cut.proofs.selection.partition.Tie as tie
 use mathlib.Core.Path.{_≡_, refl, _∙_}
 use mathlib.Core.Logic.{⊎-elim}
-use Prim.Native.Nat.{_+_, _-_}
+use Prim.Native.Nat.{_+_, _-_, _<_}
 use native.Mathlib.Omega.{arith}
 use lib.ListN.{length}
-use Rattle.cut.specs.Shuffle.{swapped}
 use Rattle.cut.proofs.Shuffles.{length-swapped}
 use Rattle.cut.proofs.Partings.{Parting, parting-start, parting-in, parting-out, parting-done}
 
@@ -23,11 +22,11 @@ loop-holds c = let a = c .before .args in
 add-reads : tie.Need-add-reads Inv-loop μ-loop
 add-reads c = omega arith
 
-mul-if1 : tie.Need-mul-if1 Inv-loop μ-loop
-mul-if1 c = omega arith
+mul-x : tie.Need-mul-x Inv-loop μ-loop
+mul-x c = omega arith
 
-slice-read-if1 : tie.Need-slice-read-if1 Inv-loop μ-loop
-slice-read-if1 c = omega arith
+slice-read-x : tie.Need-slice-read-x Inv-loop μ-loop
+slice-read-x c = omega arith
 
 swap-requires : tie.Need-swap-requires Inv-loop μ-loop
 swap-requires c κs = omega arith
@@ -43,24 +42,20 @@ loop-less c = omega arith
 
 loop-again : tie.Need-loop-again Inv-loop μ-loop
 loop-again c =
-    let at-loop = c .before .before .before in
+    let at-loop = c .before .before .before .before .before .before .before in
     let l = at-loop .loop in
     let start = at-loop .before .before in
     let a = start .args in
-    ⊎-elim
-    (λ w.
-    let e : c .if1 .values ≡ swapped (l .s) (l .i) (l .values) = w .5 ∙ w .2 .ensures in
-    rw (e, w .6) (
-      parting-in (a .lo) (a .hi) (a .v) (a .values .now) (l .values) (l .s) (l .i) (l .inv .0) (omega arith) (start .pre .1) (w .0 .taken),
+    let swap = c .before .before .before .swap in
+    let few : l .i < a .hi = omega arith in
+    rw (swap .ensures) (
+      ⊎-elim
+          (λ w. rw (w .1) (parting-in (a .lo) (a .hi) (a .v) (a .values .now) (l .values) (l .s) (l .i) (l .inv .0) few (start .pre .1) (w .0 .taken)))
+          (λ w. rw (w .1) (parting-out (a .lo) (a .hi) (a .v) (a .values .now) (l .values) (l .s) (l .i) (l .inv .0) few (start .pre .1) (w .0 .left)))
+          (c .if1 .came),
       length-swapped (l .s) (l .i) (l .values) ∙ l .inv .1,
       omega arith,
-    ))
-    (λ w. rw (w .1, w .2) (
-      parting-out (a .lo) (a .hi) (a .v) (a .values .now) (l .values) (l .s) (l .i) (l .inv .0) (omega arith) (w .0 .left),
-      l .inv .1,
-      omega arith,
-    ))
-    (c .if1 .came)
+    )
 
 same-length : tie.Need-same-length Inv-loop μ-loop
 same-length c = c .before .loop .inv .1
@@ -82,8 +77,8 @@ partition-spec =
     μ-loop
     loop-holds
     add-reads
-    mul-if1
-    slice-read-if1
+    mul-x
+    slice-read-x
     swap-requires
     add-s
     add-i

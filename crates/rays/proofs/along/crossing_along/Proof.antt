@@ -28,30 +28,32 @@ returns-2 c = let s = c .before .before .before .before .before .before .args in
     found-along (s .ray) (s .a) (s .b) (s .p) true true false (signOf (orientation (s .a) (s .b) (s .p)))
     (sym (c .before .before .before .before .before .no-higher .ensures) ∙ c .before .before .before .before .if1 .taken) (sym (c .before .before .before .no-higher2 .ensures) ∙ c .before .before .if2 .taken) (sym (c .before .on-segment .ensures) ∙ c .if3 .left) refl
 
-orient-requires : tie.Need-orient-requires
-orient-requires c κs = search needs
+passing-turn-requires : tie.Need-passing-turn-requires
+passing-turn-requires c κs =
+    (sym (c .before .before .before .no-higher .ensures) ∙ c .before .before .if1 .taken, sym (c .before .no-higher2 .ensures) ∙ c .if2 .left)
 
 rising-requires : tie.Need-rising-requires
 rising-requires c κs = search needs
 
 returns-3 : tie.Need-returns-3
 returns-3 c = let s = c .before .before .before .before .before .before .args in
-    c .rising .ensures ∙ ap upwardOf (c .before .orient .ensures)
+    c .rising .ensures ∙ ap upwardOf (c .before .passing-turn .ensures)
     ∙ found-along (s .ray) (s .a) (s .b) (s .p) true false (onSegment (s .a) (s .b) (s .p)) (signOf (orientation (s .a) (s .b) (s .p)))
     (sym (c .before .before .before .before .before .no-higher .ensures) ∙ c .before .before .before .before .if1 .taken) (sym (c .before .before .before .no-higher2 .ensures) ∙ c .before .before .if2 .left) refl refl
 
 no-higher-requires-3 : tie.Need-no-higher-requires-3
 no-higher-requires-3 c κs = search needs
 
-orient-requires-2 : tie.Need-orient-requires-2
-orient-requires-2 c κs = search needs
+passing-turn-requires-2 : tie.Need-passing-turn-requires-2
+passing-turn-requires-2 c κs =
+    (sym (c .before .before .before .no-higher .ensures) ∙ c .before .before .if1 .left, sym (c .before .no-higher3 .ensures) ∙ c .if4 .taken)
 
 falling-requires : tie.Need-falling-requires
 falling-requires c κs = search needs
 
 returns-4 : tie.Need-returns-4
 returns-4 c = let s = c .before .before .before .before .before .before .args in
-    c .falling .ensures ∙ ap downwardOf (c .before .orient2 .ensures)
+    c .falling .ensures ∙ ap downwardOf (c .before .passing-turn2 .ensures)
     ∙ found-along (s .ray) (s .a) (s .b) (s .p) false true (onSegment (s .a) (s .b) (s .p)) (signOf (orientation (s .a) (s .b) (s .p)))
     (sym (c .before .before .before .before .before .no-higher .ensures) ∙ c .before .before .before .before .if1 .left) (sym (c .before .before .before .no-higher3 .ensures) ∙ c .before .before .if4 .taken) refl refl
 
@@ -69,11 +71,11 @@ crossing-along-spec =
     on-segment-requires
     returns
     returns-2
-    orient-requires
+    passing-turn-requires
     rising-requires
     returns-3
     no-higher-requires-3
-    orient-requires-2
+    passing-turn-requires-2
     falling-requires
     returns-4
     returns-5)
