@@ -7,18 +7,27 @@ use Prim.Native.Nat.{ℕ, _<_}
 use native.Mathlib.Omega.{arith}
 use lib.IntN.{ℤ}
 use lib.ListN.{length}
+use Rattle.rules.specs.declared.Kind.{Kind}
+use Rattle.rules.specs.declared.Kind.the-variants.{Polygons, Tree}
 use Rattle.rules.specs.declared.Location.{Location}
 use Rattle.rules.specs.declared.Refusal.the-variants.{Unsound}
 use Rattle.rules.specs.declared.Reply.{Reply}
 use Rattle.rules.specs.declared.Reply as Reply
 use Rattle.rules.specs.declared.Reply.the-variants.{Refused}
 use Rattle.rules.specs.declared.State.{State}
+use Rattle.rules.specs.Tables.{polygonsIn}
 use Rattle.rules.proofs.Indexed.{bit}
+use Rattle.gather.specs.declared.tally.Layout.{Layout}
 use Rattle.gather.specs.declared.region.Region.{Region}
 use Rattle.gather.specs.declared.region.Region as Region
 use Rattle.gather.specs.declared.region.Region.the-variants.{At, TooMany}
-use Rattle.gather.specs.Regions.{Enough, LookSound, RegionSays, replyOf, LookedUp}
+use Rattle.gather.specs.Regions.{FoldSays, Enough, LookSound, RegionSays, replyOf, LookedUp}
 use Rattle.gather.proofs.Placing.{rings-few}
+
+-- a tree's fold looks at no polygon
+pub fold-stated : (kind : Kind) (m : ℕ) (polygons : List ℕ) (count : ℕ) (layout : Layout) (listed : List ℕ) (slots : List ℤ) (location : Location) → FoldSays kind polygons (polygonsIn kind m) count layout listed slots location → FoldSays kind polygons m count layout listed slots location
+fold-stated Polygons m polygons count layout listed slots location F = F
+fold-stated Tree m polygons count layout listed slots location F = F
 
 -- a premise that holds
 pub region-from : (few : Bool) (A B : Type 0) (place : Location) (r : Region) → B → RegionSays few (A × B) place r → RegionSays few A place r

@@ -4,7 +4,7 @@ use mathlib.Core.Bool.{true, cond, _&&_}
 use mathlib.Core.List.{List, []}
 use Prim.Native.Nat.{ℕ, _*_, _≤_, _<_}
 use lib.IntN.{ℤ, pos}
-use lib.ListN.{length}
+use lib.ListN.{length, getD}
 use Rattle.geom.specs.declared.Point.{Point}
 use Rattle.rules.specs.declared.Ray.{Ray}
 use Rattle.rules.specs.Lists.{sumOf, anyOf}
@@ -64,6 +64,23 @@ pub record Told (n count : ℕ) (corners : List ℤ) (rings : List ℕ) (ray : R
   pub winding : (r : ℕ) → r < count → windingIn met r ≡ sumOf (λ e. cond (inRing rings r e) (weightOf (crossingAt n corners rings ray p e)) (pos 0)) yielded
   pub on : (r : ℕ) → r < count → onIn met r ≡ anyOf (λ e. inRing rings r e && isOn (crossingAt n corners rings ray p e)) yielded
   pub tallied : Tallied count met layout listed slots
+
+-- every place of the edge list below this one is behind the walk, and what the slots say is what the edges yielded give
+pub record ToldTo (n count : ℕ) (corners : List ℤ) (rings edges : List ℕ) (ray : Ray) (query : Query) (p : Point) (place : ℕ) (layout : Layout) (listed : List ℕ) (slots : List ℤ) : Type 0 where
+  pub yielded : List ℕ
+  pub behind : Yielded corners rings edges query place yielded
+  pub told : Told n count corners rings ray p yielded layout listed slots
+
+-- the edges of a leaf are counted, whatever the walk looks for
+pub record NotedAll (n count : ℕ) (corners : List ℤ) (rings edges : List ℕ) (ray : Ray) (p : Point) (at to : ℕ) (layout : Layout) (listed : List ℕ) (slots : List ℤ) (listed′ : List ℕ) (slots′ : List ℤ) (layout′ : Layout) : Type 0 where
+  pub room : Room layout′ (length listed′) (length slots′)
+  pub same : isListed layout′ ≡ isListed layout
+  pub told : (query : Query) → n ≤ 1048576 → to ≤ n → RingEnds n count rings → ToldTo n count corners rings edges ray query p at layout listed slots → ToldTo n count corners rings edges ray query p to layout′ listed′ slots′
+
+abbrev pub LeafNoted : ℕ → ℕ → List ℤ → List ℕ → List ℕ → Ray → Point → ℕ → ℕ → Layout → List ℕ → List ℤ → List ℕ → List ℤ → Noted → Type 0
+LeafNoted n count corners rings edges ray p at to layout listed slots listed′ slots′ (To layout′ ring) = NotedAll n count corners rings edges ray p at to layout listed slots listed′ slots′ layout′
+LeafNoted n count corners rings edges ray p at to layout listed slots listed′ slots′ Full = isListed layout ≡ true
+LeafNoted n count corners rings edges ray p at to layout listed slots listed′ slots′ Noted.the-variants.Unsound = ((k : ℕ) → at ≤ k → k < to → EdgeSound n count corners rings (getD edges k 0)) → ⊥
 
 -- a whole walk: every place of the edge list is behind it
 pub record ToldAll (n count : ℕ) (corners : List ℤ) (rings edges : List ℕ) (ray : Ray) (query : Query) (p : Point) (layout : Layout) (listed : List ℕ) (slots : List ℤ) : Type 0 where

@@ -4,7 +4,7 @@ ghost use Prim.Native.Nat.{_≤_};
 ghost use lib.ListN.{length};
 ghost use Rattle.rays.specs.Numbered.{crossingAt};
 ghost use Rattle.gather.specs.Tallies.{Room};
-ghost use Rattle.gather.specs.Collections.{MetSays, NoteSays, CollectSays};
+ghost use Rattle.gather.specs.Collections.{MetSays, NoteSays, LeafNoted, CollectSays};
 use crate::tally::Added;
 use crate::tally::Layout;
 use crate::tally::add;
@@ -14,10 +14,11 @@ use rays::along::crossing_along;
 use rings::crossings::Crossing;
 use rules::Ray;
 use walk::Query;
-use walk::Step;
+use walk::Stop;
 use walk::edges::Edge;
 use walk::edges::edge_at;
-use walk::next;
+use walk::next_leaf;
+use walk::past_leaf;
 use walk::start;
 
 // How an edge counts.
@@ -28,11 +29,11 @@ pub(crate) enum Met {
     Unsound,
 }
 
-// What comes of an edge that a walk yields.
+// What comes of an edge, or of the edges of a leaf.
 pub(crate) enum Noted {
-    // it is counted: which slot belongs to which ring, and the edge's ring
+    // counted: which slot belongs to which ring, and the last edge's ring
     To(Layout, usize),
-    // there is no slot left for its ring
+    // there is no slot left for a ring
     Full,
     // 15
     Unsound,
@@ -94,7 +95,61 @@ fn note(
     }
 }
 
-// Walks and counts each edge that comes along the ray.
+// Counts the edges at the places from `at` up to `to` of the edge list, a leaf's.
+fn note_leaf(
+    layout: Layout,
+    ray: Ray,
+    corners: &[i64],
+    rings: &[usize],
+    edges: &[usize],
+    n: usize,
+    count: usize,
+    at: usize,
+    to: usize,
+    near: usize,
+    p: Point,
+    listed: &mut [usize],
+    slots: &mut [i64],
+) -> Noted
+    requires { ⌜ Room layout (length (now listed)) (length (now slots)) ⌝ }
+    requires { ⌜ (count ≤ 65536) × (at ≤ to) × (to ≤ length (now edges)) ⌝ }
+    ensures { λ r. ⌜ LeafNoted n count (now (corners .entry)) (now (rings .entry)) (now (edges .entry)) ray p at to layout (now (listed .entry)) (now (slots .entry)) (now (listed .exit)) (now (slots .exit)) r ⌝ }
+{
+    let mut here = layout;
+    let mut ring = near;
+    let mut k = at;
+    while k < to {
+        let e = edges[k];
+        match note(
+            here,
+            ray,
+            corners,
+            rings,
+            n,
+            count,
+            e,
+            ring,
+            p,
+            listed,
+            slots,
+        ) {
+            Noted::Unsound => {
+                return Noted::Unsound;
+            }
+            Noted::Full => {
+                return Noted::Full;
+            }
+            Noted::To(layout_then, ring_then) => {
+                here = layout_then;
+                ring = ring_then;
+                k += 1;
+            }
+        }
+    }
+    Noted::To(here, ring)
+}
+
+// Walks from leaf to leaf and counts the edges of each along the ray.
 //
 // On sound tables the slots then hold, ring by ring, what the edges yielded give: every edge whose box is one to enter, and none twice.
 // `TooMany` comes of a list alone. `Unsound` (15) never comes of sound tables.
@@ -122,22 +177,24 @@ pub(crate) fn collect(
     let mut here = layout;
     let mut near = 0;
     loop {
-        match next(&mut stack, boxes, parts, edges, n, query, cursor) {
-            Step::Unsound => {
+        match next_leaf(&mut stack, boxes, parts, edges, n, query, cursor) {
+            Stop::Unsound => {
                 return Collected::Unsound;
             }
-            Step::End => {
+            Stop::End => {
                 return Collected::Whole(here);
             }
-            Step::Edge(e, further) => {
-                match note(
+            Stop::Leaf(leaf) => {
+                match note_leaf(
                     here,
                     ray,
                     corners,
                     rings,
+                    edges,
                     n,
                     count,
-                    e,
+                    leaf.at,
+                    leaf.to,
                     near,
                     p,
                     listed,
@@ -152,7 +209,7 @@ pub(crate) fn collect(
                     Noted::To(layout_then, ring) => {
                         here = layout_then;
                         near = ring;
-                        cursor = further;
+                        cursor = past_leaf(leaf);
                     }
                 }
             }

@@ -1,6 +1,8 @@
 // Where a doubled point lies among the edges of a prepared plan, on the half-grid (document 01, item 7; `locate_doubled` of
 // src/prepared.rs): one walk along a ray, one parity over all edges of all rings, corners doubled.
 ghost use mathlib.Core.Path.{_≡_};
+ghost use Prim.Native.Nat.{_≤_};
+ghost use lib.ListN.{length};
 ghost use Rattle.rules.specs.Plans.{ringsOf};
 ghost use Rattle.rules.specs.Replies.{halfReply};
 ghost use Rattle.rules.specs.Tables.{planOf};
@@ -8,7 +10,7 @@ ghost use Rattle.rings.specs.Half.{crossedOnce};
 ghost use Rattle.rays.specs.Numbered.{halfCrossingAt};
 ghost use Rattle.gather.specs.Collections.{MetSays};
 ghost use Rattle.gather.specs.Regions.{LookedUp};
-ghost use Rattle.gather.specs.Halves.{CrossSays, ParitySays};
+ghost use Rattle.gather.specs.Halves.{CrossSays, LeafCrossed, ParitySays};
 use crate::collect::Met;
 use crate::region::lent_enough;
 use boxes::rect_at;
@@ -26,15 +28,16 @@ use rules::Refusal;
 use rules::Reply;
 use rules::State;
 use walk::Query;
-use walk::Step;
+use walk::Stop;
 use walk::edges::Edge;
 use walk::edges::edge_at;
-use walk::next;
+use walk::next_leaf;
+use walk::past_leaf;
 use walk::start;
 
-// What comes of an edge that a walk yields.
+// What comes of an edge, or of the edges of a leaf.
 pub(crate) enum Crossed {
-    // the parity with it, and its ring
+    // the parity with it, and the last edge's ring
     To(bool, usize),
     // the point is on it
     On,
@@ -111,7 +114,45 @@ fn cross(
     }
 }
 
-// Walks and counts each edge that comes, up to one that the point is on.
+// Counts the edges at the places from `at` up to `to` of the edge list, a leaf's, up to one that the point is on.
+fn cross_leaf(
+    odd: bool,
+    ray: Ray,
+    corners: &[i64],
+    rings: &[usize],
+    edges: &[usize],
+    n: usize,
+    count: usize,
+    at: usize,
+    to: usize,
+    near: usize,
+    p: Point,
+) -> Crossed
+    requires { ⌜ (at ≤ to) × (to ≤ length (now edges)) ⌝ }
+    ensures { λ r. ⌜ LeafCrossed n count (now (corners .entry)) (now (rings .entry)) (now (edges .entry)) (halfCrossingAt n (now (corners .entry)) (now (rings .entry)) ray p) odd at to r ⌝ }
+{
+    let mut here = odd;
+    let mut ring = near;
+    let mut k = at;
+    while k < to {
+        match cross(here, ray, corners, rings, n, count, edges[k], ring, p) {
+            Crossed::Unsound => {
+                return Crossed::Unsound;
+            }
+            Crossed::On => {
+                return Crossed::On;
+            }
+            Crossed::To(odd_then, ring_then) => {
+                here = odd_then;
+                ring = ring_then;
+                k += 1;
+            }
+        }
+    }
+    Crossed::To(here, ring)
+}
+
+// Walks from leaf to leaf and counts the edges of each, up to one that the point is on.
 fn parity_by(
     ray: Ray,
     query: Query,
@@ -131,26 +172,40 @@ fn parity_by(
     let mut odd = false;
     let mut near = 0;
     loop {
-        match next(&mut stack, boxes, parts, edges, n, query, cursor) {
-            Step::Unsound => {
+        match next_leaf(&mut stack, boxes, parts, edges, n, query, cursor) {
+            Stop::Unsound => {
                 return Outcome::Unsound;
             }
-            Step::End => {
+            Stop::End => {
                 return Outcome::Parity(odd);
             }
-            Step::Edge(e, further) => match cross(odd, ray, corners, rings, n, count, e, near, p) {
-                Crossed::Unsound => {
-                    return Outcome::Unsound;
+            Stop::Leaf(leaf) => {
+                match cross_leaf(
+                    odd,
+                    ray,
+                    corners,
+                    rings,
+                    edges,
+                    n,
+                    count,
+                    leaf.at,
+                    leaf.to,
+                    near,
+                    p,
+                ) {
+                    Crossed::Unsound => {
+                        return Outcome::Unsound;
+                    }
+                    Crossed::On => {
+                        return Outcome::On;
+                    }
+                    Crossed::To(odd_then, ring) => {
+                        odd = odd_then;
+                        near = ring;
+                        cursor = past_leaf(leaf);
+                    }
                 }
-                Crossed::On => {
-                    return Outcome::On;
-                }
-                Crossed::To(odd_then, ring) => {
-                    odd = odd_then;
-                    near = ring;
-                    cursor = further;
-                }
-            },
+            }
         }
     }
 }

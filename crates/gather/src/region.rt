@@ -7,6 +7,9 @@ ghost use mathlib.Core.List.{[]};
 ghost use Prim.Native.Nat.{_≤_, _<_};
 ghost use lib.ListN.{length};
 ghost use Rattle.rules.specs.Tables.{planOf, polygonsIn};
+ghost use Rattle.boxes.specs.Boxes.{rectAt};
+ghost use Rattle.rays.specs.Reach.{rayRect};
+ghost use Rattle.walk.specs.declared.Query.the-variants.{Meeting};
 ghost use Rattle.walk.specs.Steps.{Whether};
 ghost use Rattle.gather.specs.Tallies.{ringAt, sizeOf, isListed, Room, Tallied};
 ghost use Rattle.gather.specs.Regions.{Listable, FoldSays, Enough, LookSound, RegionSays, regionReply, replyOf, LookedUp};
@@ -90,7 +93,10 @@ fn fold_slots(
 // What one walk along the ray says of the region, with no edge counted before it.
 fn region_by(
     layout: Layout,
+    kind: Kind,
+    polygon_count: usize,
     ray: Ray,
+    query: Query,
     state: State,
     corners: &[i64],
     rings: &[usize],
@@ -103,13 +109,11 @@ fn region_by(
     slots: &mut [i64],
 ) -> Region
     requires { ⌜ Room layout (length (now listed)) (length (now slots)) ⌝ }
-    requires { ⌜ (state .rings ≤ 65536) × (0 < length (now boxes)) ⌝ }
+    requires { ⌜ (state .rings ≤ 65536) × (kind ≡ state .kind) × («polygon_count» ≡ polygonsIn (state .kind) (state .polygons)) × (query ≡ Meeting (rayRect ray (rectAt (now boxes) 0) p)) ⌝ }
     ensures { λ r. ⌜ RegionSays (isListed layout) (LookSound state (now (corners .entry)) (now (rings .entry)) (now (polygons .entry)) (now (boxes .entry)) (now (parts .entry)) (now (edges .entry)) × Tallied (state .rings) [] layout (now (listed .entry)) (now (slots .entry))) (regionReply (planOf state (now (corners .entry)) (now (rings .entry)) (now (polygons .entry))) p) r ⌝ }
 {
-    let kind = state.kind;
     let n = state.corners;
     let count = state.rings;
-    let query = Query::Meeting(ray_rect(ray, rect_at(boxes, 0), p));
     match collect(
         layout,
         ray,
@@ -130,7 +134,7 @@ fn region_by(
         Collected::Whole(whole) => Region::At(fold_slots(
             kind,
             polygons,
-            state.polygons,
+            polygon_count,
             count,
             whole,
             listed,
@@ -154,11 +158,16 @@ fn few_rings(
     requires { ⌜ (state .rings ≤ 65536) × (0 < length (now boxes)) ⌝ }
     ensures { λ r. ⌜ RegionSays true (LookSound state (now (corners .entry)) (now (rings .entry)) (now (polygons .entry)) (now (boxes .entry)) (now (parts .entry)) (now (edges .entry))) (regionReply (planOf state (now (corners .entry)) (now (rings .entry)) (now (polygons .entry))) p) r ⌝ }
 {
+    let kind = state.kind;
     let mut listed = [0usize; LISTED];
     let mut slots = [0i64; LISTED];
+    let query = Query::Meeting(ray_rect(ray, rect_at(boxes, 0), p));
     region_by(
         Layout::Listed(0),
+        kind,
+        polygons_in(kind, state.polygons),
         ray,
+        query,
         state,
         corners,
         rings,
@@ -174,6 +183,46 @@ fn few_rings(
 
 // By a slot for each ring.
 fn many_rings(
+    kind: Kind,
+    polygon_count: usize,
+    ray: Ray,
+    state: State,
+    corners: &[i64],
+    rings: &[usize],
+    polygons: &[usize],
+    boxes: &[[i64; 4]],
+    parts: &[[usize; 3]],
+    edges: &[usize],
+    p: Point,
+) -> Region
+    requires { ⌜ (state .rings ≤ 65536) × (kind ≡ state .kind) × («polygon_count» ≡ polygonsIn (state .kind) (state .polygons)) × (0 < length (now boxes)) ⌝ }
+    ensures { λ r. ⌜ RegionSays false (LookSound state (now (corners .entry)) (now (rings .entry)) (now (polygons .entry)) (now (boxes .entry)) (now (parts .entry)) (now (edges .entry))) (regionReply (planOf state (now (corners .entry)) (now (rings .entry)) (now (polygons .entry))) p) r ⌝ }
+{
+    let mut listed = [0usize; 1];
+    let mut slots = [0i64; MAX_RINGS];
+    let query = Query::Meeting(ray_rect(ray, rect_at(boxes, 0), p));
+    region_by(
+        Layout::EachRing,
+        kind,
+        polygon_count,
+        ray,
+        query,
+        state,
+        corners,
+        rings,
+        polygons,
+        boxes,
+        parts,
+        edges,
+        p,
+        &mut listed,
+        &mut slots,
+    )
+}
+
+// By a slot for each ring, where a list has not been enough. It is called at two places so that the compiler keeps it a function of its
+// own: as a part of `region_along` it would have each look-up touch all pages of half a mebibyte before its first step.
+fn second_walk(
     ray: Ray,
     state: State,
     corners: &[i64],
@@ -187,22 +236,35 @@ fn many_rings(
     requires { ⌜ (state .rings ≤ 65536) × (0 < length (now boxes)) ⌝ }
     ensures { λ r. ⌜ RegionSays false (LookSound state (now (corners .entry)) (now (rings .entry)) (now (polygons .entry)) (now (boxes .entry)) (now (parts .entry)) (now (edges .entry))) (regionReply (planOf state (now (corners .entry)) (now (rings .entry)) (now (polygons .entry))) p) r ⌝ }
 {
-    let mut listed = [0usize; 1];
-    let mut slots = [0i64; MAX_RINGS];
-    region_by(
-        Layout::EachRing,
-        ray,
-        state,
-        corners,
-        rings,
-        polygons,
-        boxes,
-        parts,
-        edges,
-        p,
-        &mut listed,
-        &mut slots,
-    )
+    let kind = state.kind;
+    match kind {
+        Kind::Polygons => many_rings(
+            Kind::Polygons,
+            state.polygons,
+            ray,
+            state,
+            corners,
+            rings,
+            polygons,
+            boxes,
+            parts,
+            edges,
+            p,
+        ),
+        Kind::Tree => many_rings(
+            Kind::Tree,
+            0,
+            ray,
+            state,
+            corners,
+            rings,
+            polygons,
+            boxes,
+            parts,
+            edges,
+            p,
+        ),
+    }
 }
 
 // A region's place as a reply.
@@ -296,7 +358,7 @@ pub fn region_along(
     }
     match few_rings(ray, state, corners, rings, polygons, boxes, parts, edges, p) {
         Region::At(location) => Reply::At(location),
-        Region::TooMany => answer(many_rings(
+        Region::TooMany => answer(second_walk(
             ray,
             state,
             corners,

@@ -15,7 +15,7 @@ use Rattle.index.specs.Build.{Two}
 use Rattle.index.proofs.Counts.{node-count-some}
 use Rattle.index.proofs.Soundness.{children-later, part-inside}
 use Rattle.walk.specs.declared.Cursor.{Cursor}
-use Rattle.walk.specs.Steps.{Inside, afterNode, WalkSound, begin, owed, Walking, Begun}
+use Rattle.walk.specs.Steps.{Inside, afterNode, WalkSound, begin, owed, Walking, Begun, atPlace}
 
 -- what holds below u, at u and next to it
 up-two : (P : ℕ → Type 0) (u : ℕ) → ((j : ℕ) → j < u → P j) → P u → P (u + 1) → (j : ℕ) → j < u + 2 → P j
@@ -84,9 +84,9 @@ module _ (n : ℕ) (corners : List ℤ) (rings : List ℕ) (boxes : List (List �
       power = refl
 
   module _ (stack : List ℕ) (c : Cursor) (S : Walking n parts stack c) where
-    -- the next place of a leaf
-    pub walking-next : c .at < c .to → Walking n parts stack (record { nodes = c .nodes; waiting = c .waiting; met = c .met; at = c .at + 1; to = c .to })
-    walking-next l = record { room = S .room; all = S .all; few = S .few; below = S .below; seam = S .seam; small = S .small; owes = S .owes; from = S .from; here = omega arith; inside = S .inside }
+    -- a further place of the leaf in hand
+    pub walking-at : (at : ℕ) → at ≤ c .to → Walking n parts stack (atPlace c at)
+    walking-at at l = record { room = S .room; all = S .all; few = S .few; below = S .below; seam = S .seam; small = S .small; owes = S .owes; from = S .from; here = l; inside = S .inside }
 
     -- nothing waits and the leaf is passed: the walk stands at the end
     pub walking-end : c .waiting ≡ 0 → c .to ≤ c .at → c .at ≡ n

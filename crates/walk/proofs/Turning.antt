@@ -13,9 +13,9 @@ use Rattle.index.specs.Parts.{firstAt, countAt}
 use Rattle.index.proofs.Soundness.{edge-in}
 use Rattle.walk.specs.declared.Cursor.{Cursor}
 use Rattle.walk.specs.declared.Query.{Query}
-use Rattle.walk.specs.Steps.{Whether, Inside, Lent, Waiting, MissedTo, LeafFrom, CutInto, afterNode, remaining, WalkSound, Walking, MissedAt, Turned, Advanced, Never, Yields, Ends}
+use Rattle.walk.specs.Steps.{Whether, Inside, Lent, Waiting, MissedTo, LeafFrom, CutInto, afterNode, remaining, WalkSound, Walking, MissedAt, Turned, Advanced, Going, InHand, Never, Yields, Ends, atPlace}
 use Rattle.walk.proofs.Missing.{part-missed}
-use Rattle.walk.proofs.Standing.{walking-next, walking-end, top-first, not-all-met, top-inside, top-deep, walking-off, walking-cut}
+use Rattle.walk.proofs.Standing.{walking-at, walking-end, top-first, not-all-met, top-inside, top-deep, walking-off, walking-cut}
 
 -- a flag made of two tests
 pub whether-both : (A : Type 0) (a b : Bool) → (a ≡ true → b ≡ true → A) → (A → a ≡ true) → (A → b ≡ true) → Whether A (a && b)
@@ -94,15 +94,6 @@ module _ (n : ℕ) (boxes : List (List ℤ)) (parts : List (List ℕ)) (query : 
 
 -- ---- the state of a step that began at cursor c over the stack `stack`
 module _ (n : ℕ) (boxes : List (List ℤ)) (parts : List (List ℕ)) (edges : List ℕ) (query : Query) (stack : List ℕ) (c : Cursor) where
-  pub record Going (stack′ : List ℕ) (here : Cursor) : Type 0 where
-    pub lent : Lent n (length stack) (length boxes) (length parts) (length edges) c
-    pub long : length stack′ ≡ length stack
-    pub same : here .nodes ≡ c .nodes
-    pub few : here .waiting ≤ 18
-    pub inside : here .to ≤ n
-    pub near : remaining here ≤ remaining c
-    pub turned : (corners : List ℤ) (rings : List ℕ) → WalkSound n corners rings boxes parts edges → Walking n parts stack c → Turned n corners rings edges parts query c stack′ here
-
   -- a walk of sound tables is lent enough
   pub never-short : (Lent n (length stack) (length boxes) (length parts) (length edges) c → ⊥) → Never n boxes parts edges stack c
   never-short f corners rings T S =
@@ -115,7 +106,7 @@ module _ (n : ℕ) (boxes : List (List ℤ)) (parts : List (List ℕ)) (edges : 
         inside = S .inside;
       })
 
-  pub going-start : Lent n (length stack) (length boxes) (length parts) (length edges) c → Going stack c
+  pub going-start : Lent n (length stack) (length boxes) (length parts) (length edges) c → Going n boxes parts edges query stack c stack c
   going-start L = record {
     lent = L;
     long = refl;
@@ -126,7 +117,7 @@ module _ (n : ℕ) (boxes : List (List ℤ)) (parts : List (List ℕ)) (edges : 
     turned = λ corners rings T S. record { walking = S; on = omega arith; over = λ k a b. absurd (omega arith) };
   }
 
-  module _ (stack′ : List ℕ) (here : Cursor) (G : Going stack′ here) where
+  module _ (stack′ : List ℕ) (here : Cursor) (G : Going n boxes parts edges query stack c stack′ here) where
     pub going-waits : 0 < here .waiting → here .to ≤ here .at → Waiting (length stack′) (length boxes) (length parts) here
     going-waits h e = record {
       stack-reach = omega (arith, G .lent .stack-reach, G .long);
@@ -140,7 +131,7 @@ module _ (n : ℕ) (boxes : List (List ℤ)) (parts : List (List ℕ)) (edges : 
     pub going-never : Never n boxes parts edges stack′ here → Never n boxes parts edges stack c
     going-never f corners rings T S = f corners rings T (G .turned corners rings T S .walking)
 
-    pub going-on : (stack″ : List ℕ) (further : Cursor) → length stack″ ≡ length stack′ → Advanced n boxes parts query stack′ here stack″ further → Going stack″ further
+    pub going-on : (stack″ : List ℕ) (further : Cursor) → length stack″ ≡ length stack′ → Advanced n boxes parts query stack′ here stack″ further → Going n boxes parts edges query stack c stack″ further
     going-on stack″ further long A = record {
       lent = G .lent;
       long = long ∙ G .long;
@@ -171,7 +162,7 @@ module _ (n : ℕ) (boxes : List (List ℤ)) (parts : List (List ℕ)) (edges : 
     pub going-astray : here .at < here .to → n ≤ getD edges (here .at) 0 → Never n boxes parts edges stack c
     going-astray l a corners rings T S = omega (arith, edge-in n corners rings boxes parts edges (T .index) (here .at) (omega (arith, G .inside)))
 
-    pub going-yields : here .at < here .to → getD edges (here .at) 0 < n → Yields n boxes parts edges query stack c stack′ (getD edges (here .at) 0) (record { nodes = here .nodes; waiting = here .waiting; met = here .met; at = here .at + 1; to = here .to })
+    pub going-yields : here .at < here .to → getD edges (here .at) 0 < n → Yields n boxes parts edges query stack c stack′ (getD edges (here .at) 0) (atPlace here (here .at + 1))
     going-yields l i = record {
       edge = i;
       place = here .at;
@@ -194,6 +185,6 @@ module _ (n : ℕ) (boxes : List (List ℤ)) (parts : List (List ℕ)) (edges : 
           record {
             on = t .on;
             over = t .over;
-            walking = walking-next n corners rings boxes parts edges T stack′ here (t .walking) l;
+            walking = walking-at n corners rings boxes parts edges T stack′ here (t .walking) (here .at + 1) (omega arith);
           };
     }

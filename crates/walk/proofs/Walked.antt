@@ -75,7 +75,7 @@ module _ (corners : List ℤ) (rings edges : List ℕ) (query : Query) where
   count-most test _ _ (over {at = at} {es = es} Y m) = let r = count-most test at es Y in omega arith
   count-most test _ _ (edge {at = at} {es = es} Y) = let r = count-most test at es Y in omega (arith, count-cons test (getD edges at 0) es)
 
-  length-most : (at : ℕ) (es : List ℕ) → Yielded corners rings edges query at es → length es ≤ at
+  pub length-most : (at : ℕ) (es : List ℕ) → Yielded corners rings edges query at es → length es ≤ at
   length-most _ _ none = omega arith
   length-most _ _ (over {at = at} {es = es} Y m) = let r = length-most at es Y in omega arith
   length-most _ _ (edge {at = at} {es = es} Y) = let r = length-most at es Y in omega arith

@@ -22,6 +22,8 @@ use Rattle.walk.specs.declared.Node.the-variants.{Missed, Leaf, Cut}
 use Rattle.walk.specs.declared.Turn.{Turn}
 use Rattle.walk.specs.declared.Turn as Turn
 use Rattle.walk.specs.declared.Turn.the-variants.{On}
+use Rattle.walk.specs.declared.Stop.{Stop}
+use Rattle.walk.specs.declared.Stop as Stop
 use Rattle.walk.specs.declared.Step.{Step}
 use Rattle.walk.specs.declared.Step as Step
 use Rattle.walk.specs.declared.Step.the-variants.{Edge, End}
@@ -31,6 +33,12 @@ abbrev pub stepNumber : Step → ℕ
 stepNumber (Edge e cursor) = 0
 stepNumber End = 0
 stepNumber Step.the-variants.Unsound = refusalNumber Unsound
+
+-- and the same up to a leaf
+abbrev pub stopNumber : Stop → ℕ
+stopNumber (Stop.the-variants.Leaf cursor) = 0
+stopNumber Stop.the-variants.End = 0
+stopNumber Stop.the-variants.Unsound = refusalNumber Unsound
 
 -- what is looked for lies in a box: the box is entered. Boxes are closed, so one that meets the rectangle in its rim alone is entered too
 abbrev pub enters : Query → Rect → Bool
@@ -101,6 +109,10 @@ NodeSays boxes parts n nodes query p (Cut f l) = CutInto boxes parts n nodes que
 -- one more node is met
 abbrev pub afterNode : Cursor → ℕ → ℕ → ℕ → Cursor
 afterNode cursor waiting at to = record { nodes = cursor .nodes; waiting = waiting; met = cursor .met + 1; at = at; to = to }
+
+-- so many places of the leaf in hand are behind it
+abbrev pub atPlace : Cursor → ℕ → Cursor
+atPlace cursor at = record { nodes = cursor .nodes; waiting = cursor .waiting; met = cursor .met; at = at; to = cursor .to }
 
 -- how far a walk through any tables is from its end: a leaf has at most 8 places
 abbrev pub remaining : Cursor → ℕ
@@ -202,6 +214,30 @@ pub record Ends (n : ℕ) (boxes : List (List ℤ)) (parts : List (List ℕ)) (e
   pub lent : Lent n (length stack) (length boxes) (length parts) (length edges) cursor
   pub over : (corners : List ℤ) (rings : List ℕ) → WalkSound n corners rings boxes parts edges → Walking n parts stack cursor → Over corners rings edges query (cursor .at) n
 
+-- ---- up to a leaf
+
+-- a walk goes on from one cursor to another: the tables are long enough, the numbers stay within them, and it is no farther from its end.
+-- On sound tables the places passed over have no edge whose box is one to enter
+pub record Going (n : ℕ) (boxes : List (List ℤ)) (parts : List (List ℕ)) (edges : List ℕ) (query : Query) (stack : List ℕ) (cursor : Cursor) (stack′ : List ℕ) (here : Cursor) : Type 0 where
+  pub lent : Lent n (length stack) (length boxes) (length parts) (length edges) cursor
+  pub long : length stack′ ≡ length stack
+  pub same : here .nodes ≡ cursor .nodes
+  pub few : here .waiting ≤ 18
+  pub inside : here .to ≤ n
+  pub near : remaining here ≤ remaining cursor
+  pub turned : (corners : List ℤ) (rings : List ℕ) → WalkSound n corners rings boxes parts edges → Walking n parts stack cursor → Turned n corners rings edges parts query cursor stack′ here
+
+-- it has a leaf in hand
+pub record InHand (n : ℕ) (boxes : List (List ℤ)) (parts : List (List ℕ)) (edges : List ℕ) (query : Query) (stack : List ℕ) (cursor : Cursor) (stack′ : List ℕ) (here : Cursor) : Type 0 where
+  pub going : Going n boxes parts edges query stack cursor stack′ here
+  pub some : here .at < here .to
+
+abbrev pub StopSays : ℕ → List (List ℤ) → List (List ℕ) → List ℕ → Query → List ℕ → Cursor → List ℕ → Stop → Type 0
+StopSays n boxes parts edges query stack cursor stack′ (Stop.the-variants.Leaf here) = InHand n boxes parts edges query stack cursor stack′ here
+StopSays n boxes parts edges query stack cursor stack′ Stop.the-variants.End = Ends n boxes parts edges query stack cursor
+StopSays n boxes parts edges query stack cursor stack′ Stop.the-variants.Unsound = Never n boxes parts edges stack cursor
+
+-- ---- an edge
 abbrev pub Says : ℕ → List (List ℤ) → List (List ℕ) → List ℕ → Query → List ℕ → Cursor → List ℕ → Step → Type 0
 Says n boxes parts edges query stack cursor stack′ (Edge e cursor′) = Yields n boxes parts edges query stack cursor stack′ e cursor′
 Says n boxes parts edges query stack cursor stack′ End = Ends n boxes parts edges query stack cursor

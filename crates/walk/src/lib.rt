@@ -3,7 +3,7 @@
 ghost use mathlib.Core.Path.{_≡_};
 ghost use Prim.Native.Nat.{_+_, _<_, _≤_};
 ghost use lib.ListN.{length};
-ghost use Rattle.walk.specs.Steps.{enters, Lent, Whether, Waiting, NodeSays, afterNode, Begun, TurnSays, Says};
+ghost use Rattle.walk.specs.Steps.{enters, Lent, Whether, Waiting, NodeSays, afterNode, atPlace, Begun, TurnSays, StopSays, Says};
 
 /// An edge by its number.
 pub mod edges;
@@ -33,6 +33,16 @@ pub struct Cursor {
     pub met: usize,
     pub at: usize,
     pub to: usize,
+}
+
+/// What a walk comes to when it goes on to a leaf.
+pub enum Stop {
+    /// Where the walk stands with a leaf in hand: its places from `at` up to `to` are left, and there is one.
+    Leaf(Cursor),
+    /// No leaf is left.
+    End,
+    /// 15, as of a step.
+    Unsound,
 }
 
 /// What a step of a walk gives.
@@ -196,6 +206,62 @@ pub fn start(n: usize) -> Cursor
     }
 }
 
+/// The next leaf of a walk that looks for what the query says, or the end. A walk that has a leaf in hand stays where it is. The tables
+/// are only read; what the stack is, and when 15 (`Unsound`) comes, is as `next` has it.
+///
+/// On sound tables, with a cursor and a stack as `start` and earlier calls left them, no edge of the places passed over on the way has a
+/// box that the query enters. Whoever takes the leaf's edges goes on from its end, with `to` as `at`.
+pub fn next_leaf(
+    stack: &mut [usize],
+    boxes: &[[i64; 4]],
+    parts: &[[usize; 3]],
+    edges: &[usize],
+    n: usize,
+    query: Query,
+    cursor: Cursor,
+) -> Stop
+    ensures { λ r. ⌜ StopSays n (now (boxes .entry)) (now (parts .entry)) (now (edges .entry)) query (now (stack .entry)) cursor (now (stack .exit)) r ⌝ }
+{
+    if !lent_enough(stack.len(), boxes, parts, edges, n, cursor) {
+        return Stop::Unsound;
+    }
+    let mut here = cursor;
+    while here.to <= here.at {
+        if here.waiting == 0 {
+            return Stop::End;
+        }
+        match meet_node(stack, boxes, parts, n, query, here) {
+            Turn::Unsound => {
+                return Stop::Unsound;
+            }
+            Turn::On(further) => {
+                here = further;
+            }
+        }
+    }
+    Stop::Leaf(here)
+}
+
+// Where a walk stands when so many places of the leaf in hand are behind it.
+fn at_place(cursor: Cursor, at: usize) -> Cursor
+    ensures { λ r. ⌜ r ≡ atPlace cursor at ⌝ }
+{
+    Cursor {
+        nodes: cursor.nodes,
+        waiting: cursor.waiting,
+        met: cursor.met,
+        at,
+        to: cursor.to,
+    }
+}
+
+/// The walk past the leaf in hand.
+pub fn past_leaf(cursor: Cursor) -> Cursor
+    ensures { λ r. ⌜ r ≡ atPlace cursor (cursor .to) ⌝ }
+{
+    at_place(cursor, cursor.to)
+}
+
 /// The next edge of a walk that looks for what the query says, with the walk after it, or the end. The tables are only read. The stack
 /// is working space and no table of the plan: an array of `STACK` numbers that the caller keeps for the length of one walk and lends to
 /// each step. A step that is refused leaves every table as it was; of the stack it promises its length alone.
@@ -215,36 +281,16 @@ pub fn next(
 ) -> Step
     ensures { λ r. ⌜ Says n (now (boxes .entry)) (now (parts .entry)) (now (edges .entry)) query (now (stack .entry)) cursor (now (stack .exit)) r ⌝ }
 {
-    if !lent_enough(stack.len(), boxes, parts, edges, n, cursor) {
-        return Step::Unsound;
-    }
-    let mut here = cursor;
-    while here.to <= here.at {
-        if here.waiting == 0 {
-            return Step::End;
-        }
-        match meet_node(stack, boxes, parts, n, query, here) {
-            Turn::Unsound => {
+    match next_leaf(stack, boxes, parts, edges, n, query, cursor) {
+        Stop::Unsound => Step::Unsound,
+        Stop::End => Step::End,
+        Stop::Leaf(here) => {
+            let at = here.at;
+            let e = edges[at];
+            if n <= e {
                 return Step::Unsound;
             }
-            Turn::On(further) => {
-                here = further;
-            }
+            Step::Edge(e, at_place(here, at + 1))
         }
     }
-    let at = here.at;
-    let e = edges[at];
-    if n <= e {
-        return Step::Unsound;
-    }
-    Step::Edge(
-        e,
-        Cursor {
-            nodes: here.nodes,
-            waiting: here.waiting,
-            met: here.met,
-            at: at + 1,
-            to: here.to,
-        },
-    )
 }

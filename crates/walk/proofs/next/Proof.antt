@@ -1,127 +1,90 @@
--- `walk::next` meets its contract.
+-- `walk::next` meets its contract: the edge at the first place of the leaf in hand.
 use borrow.Author.Needs.{needs}
-use Prim.Native.Nat.{_-_}
+use mathlib.Core.Path.{_≡_, subst, sym}
 use native.Mathlib.Omega.{arith}
-use Rattle.integers.proofs.Tests.{not-true, not-false}
-use Rattle.walk.specs.Steps.{Advanced}
-use Rattle.walk.proofs.Turning.{Going, never-short, going-start, going-waits, going-never, going-on, going-end, going-astray, going-yields}
+use lib.ListN.{getD}
+use Rattle.walk.specs.declared.Cursor.{Cursor}
+use Rattle.walk.specs.Steps.{InHand, Yields}
+use Rattle.walk.proofs.Turning.{going-astray, going-yields}
 use Rattle.walk.proofs.next.Statement.{statement}
 use Rattle.walk.proofs.next.Tie as tie
 
-abbrev Inv-loop : tie.InvT-loop
-Inv-loop stack₀ boxes parts edges n query here₀ stack here = Going n boxes parts edges query stack₀ here₀ stack here
+next-leaf-requires : tie.Need-next-leaf-requires
+next-leaf-requires c κs = search needs
 
-abbrev μ-loop : tie.MeasureT-loop
-μ-loop stack₀ boxes parts edges n query here₀ stack here = here .nodes - here .met
-
--- what a node met says
-advanced : (c : tie.After-known-told Inv-loop μ-loop) → Advanced (c .before .before .before .before .before .before .before .before .before .before .before .before .before .before .before .before .args .n) (c .before .before .before .before .before .before .before .before .before .before .before .before .before .before .before .before .args .boxes .now) (c .before .before .before .before .before .before .before .before .before .before .before .before .before .before .before .before .args .parts .now) (c .before .before .before .before .before .before .before .before .before .before .before .before .before .before .before .before .args .query) (c .before .before .before .before .before .before .before .before .before .before .before .loop .stack) (c .before .before .before .before .before .before .before .before .before .before .before .loop .here) (c .before .before .before .before .before .meet-node .last .0) (c .before .further .given .0 .0)
-advanced c = rw (c .before .further .given .1) at (c .before .before .before .before .before .meet-node .ensures)
-
-lent-enough-requires : tie.Need-lent-enough-requires Inv-loop μ-loop
-lent-enough-requires c κs = search needs
-
-returns : tie.Need-returns Inv-loop μ-loop
-returns c =
-    let a = c .before .before .before .before .args in
-    never-short (a .n) (a .boxes .now) (a .parts .now) (a .edges .now) (a .query) (a .stack .now) (a .cursor) (rw (not-true (c .before .lent-enough .result) (c .if1 .taken)) at (c .before .lent-enough .ensures))
-
-loop-holds : tie.Need-loop-holds Inv-loop μ-loop
-loop-holds c =
-    let a = c .before .before .before .before .args in
-    going-start (a .n) (a .boxes .now) (a .parts .now) (a .edges .now) (a .query) (a .stack .now) (a .cursor) (rw (not-false (c .before .lent-enough .result) (c .if1 .left)) at (c .before .lent-enough .ensures))
-
-same-length : tie.Need-same-length Inv-loop μ-loop
-same-length c = search needs
-
-returns-2 : tie.Need-returns-2 Inv-loop μ-loop
-returns-2 c =
-    let a = c .before .before .before .before .before .before .before .before .before .args in
-    let l = c .before .before .before .before .loop in
-    going-end (a .n) (a .boxes .now) (a .parts .now) (a .edges .now) (a .query) (a .stack .now) (a .cursor) (l .stack) (l .here) (l .inv) (c .if3 .taken) (c .before .before .if2 .taken)
-
-meet-node-requires : tie.Need-meet-node-requires Inv-loop μ-loop
-meet-node-requires c κs =
-    let a = c .before .before .before .before .before .before .before .before .before .before .args in
-    let l = c .before .before .before .before .before .loop in
-    going-waits (a .n) (a .boxes .now) (a .parts .now) (a .edges .now) (a .query) (a .stack .now) (a .cursor) (l .stack) (l .here) (l .inv) (omega (arith, c .before .if3 .left)) (c .before .before .before .if2 .taken)
-
-enum-told : tie.Need-enum-told Inv-loop μ-loop
+enum-told : tie.Need-enum-told
 enum-told c = search needs
 
-same-length-2 : tie.Need-same-length-2 Inv-loop μ-loop
+enum-told-2 : tie.Need-enum-told-2
+enum-told-2 c = search needs
+
+enum-known-here : tie.Need-enum-known-here
+enum-known-here c = search needs
+
+-- the leaf in hand
+in-hand : (c : tie.After-known-told) → InHand (c .before .before .before .before .before .before .before .before .before .args .n) (c .before .before .before .before .before .before .before .before .before .args .boxes .now) (c .before .before .before .before .before .before .before .before .before .args .parts .now) (c .before .before .before .before .before .before .before .before .before .args .edges .now) (c .before .before .before .before .before .before .before .before .before .args .query) (c .before .before .before .before .before .before .before .before .before .args .stack .now) (c .before .before .before .before .before .before .before .before .before .args .cursor) (c .before .before .before .before .before .next-leaf .last .0) (c .before .here .given .0 .0)
+in-hand c = rw (c .before .here .given .1) at (c .before .before .before .before .before .next-leaf .ensures)
+
+mul-e : tie.Need-mul-e
+mul-e c = omega (arith, in-hand c .some, in-hand c .going .inside, in-hand c .going .lent .edges-reach, c .before .before .before .before .before .before .before .before .before .good)
+
+shared-slice-read-e : tie.Need-shared-slice-read-e
+shared-slice-read-e c = omega (arith, in-hand (c .before) .some, in-hand (c .before) .going .inside, in-hand (c .before) .going .lent .edges-reach)
+
+same-length : tie.Need-same-length
+same-length c = search needs
+
+returns : tie.Need-returns
+returns c =
+    let k = c .before .before in
+    let a = k .before .before .before .before .before .before .before .before .before .args in
+    going-astray (a .n) (a .boxes .now) (a .parts .now) (a .edges .now) (a .query) (a .stack .now) (a .cursor) (k .before .before .before .before .before .next-leaf .last .0) (k .before .here .given .0 .0) (in-hand k .going) (in-hand k .some) (c .if1 .taken)
+
+add-at-place : tie.Need-add-at-place
+add-at-place c = omega (arith, in-hand (c .before .before) .some, in-hand (c .before .before) .going .inside, c .before .before .before .before .before .before .before .before .before .before .before .fits .n)
+
+at-place-requires : tie.Need-at-place-requires
+at-place-requires c κs = search needs
+
+same-length-2 : tie.Need-same-length-2
 same-length-2 c = search needs
 
-returns-3 : tie.Need-returns-3 Inv-loop μ-loop
-returns-3 c =
-    let a = c .before .before .before .before .before .before .before .before .before .before .before .before .before .before .before .args in
-    let l = c .before .before .before .before .before .before .before .before .before .before .loop in
-    going-never (a .n) (a .boxes .now) (a .parts .now) (a .edges .now) (a .query) (a .stack .now) (a .cursor) (l .stack) (l .here) (l .inv) (rw (c .enum-told .given .1) at (c .before .before .before .before .meet-node .ensures) (a .edges .now))
+returns-2 : tie.Need-returns-2
+returns-2 c = rw (c .enum-told .given .1) at (c .before .before .before .before .next-leaf .ensures)
 
-enum-known-further : tie.Need-enum-known-further Inv-loop μ-loop
-enum-known-further c = search needs
-
-loop-less : tie.Need-loop-less Inv-loop μ-loop
-loop-less c =
-    let a = c .before .before .before .before .before .before .before .before .before .before .before .before .before .before .before .before .args in
-    let l = c .before .before .before .before .before .before .before .before .before .before .before .loop in
-    omega (arith, advanced c .same, advanced c .met, advanced c .more)
-
-loop-again : tie.Need-loop-again Inv-loop μ-loop
-loop-again c =
-    let a = c .before .before .before .before .before .before .before .before .before .before .before .before .before .before .before .before .args in
-    let l = c .before .before .before .before .before .before .before .before .before .before .before .loop in
-    going-on (a .n) (a .boxes .now) (a .parts .now) (a .edges .now) (a .query) (a .stack .now) (a .cursor) (l .stack) (l .here) (l .inv) _ _ (c .before .before .before .before .before .meet-node .kept .0) (advanced c)
-
-mul-e : tie.Need-mul-e Inv-loop μ-loop
-mul-e c = search needs
-
-shared-slice-read-e : tie.Need-shared-slice-read-e Inv-loop μ-loop
-shared-slice-read-e c = search needs
-
-same-length-3 : tie.Need-same-length-3 Inv-loop μ-loop
+same-length-3 : tie.Need-same-length-3
 same-length-3 c = search needs
 
-returns-4 : tie.Need-returns-4 Inv-loop μ-loop
-returns-4 c =
-    let a = c .before .before .before .before .before .before .before .before .before .args in
-    let l = c .before .before .before .before .loop in
-    going-astray (a .n) (a .boxes .now) (a .parts .now) (a .edges .now) (a .query) (a .stack .now) (a .cursor) (l .stack) (l .here) (l .inv) (c .before .before .if2 .left) (c .if4 .taken)
+returns-3 : tie.Need-returns-3
+returns-3 c = rw (c .enum-told2 .given .1) at (c .before .before .before .before .next-leaf .ensures)
 
-add-t20 : tie.Need-add-t20 Inv-loop μ-loop
-add-t20 c = search needs
-
-same-length-4 : tie.Need-same-length-4 Inv-loop μ-loop
+same-length-4 : tie.Need-same-length-4
 same-length-4 c = search needs
 
-returns-5 : tie.Need-returns-5 Inv-loop μ-loop
-returns-5 c =
-    let a = c .before .before .before .before .before .before .before .before .before .args in
-    let l = c .before .before .before .before .loop in
-    going-yields (a .n) (a .boxes .now) (a .parts .now) (a .edges .now) (a .query) (a .stack .now) (a .cursor) (l .stack) (l .here) (l .inv) (c .before .before .if2 .left) (c .if4 .left)
+returns-4 : tie.Need-returns-4
+returns-4 c =
+    let k = c .before .before .before in
+    let a = k .before .before .before .before .before .before .before .before .before .args in
+    subst (λ (c′ : Cursor). Yields (a .n) (a .boxes .now) (a .parts .now) (a .edges .now) (a .query) (a .stack .now) (a .cursor) (k .before .before .before .before .before .next-leaf .last .0) (getD (a .edges .now) (k .before .here .given .0 .0 .at) 0) c′) (sym (c .at-place .ensures))
+    (going-yields (a .n) (a .boxes .now) (a .parts .now) (a .edges .now) (a .query) (a .stack .now) (a .cursor) (k .before .before .before .before .before .next-leaf .last .0) (k .before .here .given .0 .0) (in-hand k .going) (in-hand k .some) (c .before .if1 .left))
 
 pub next-spec : {M : Type 1} → statement M
 next-spec =
     tie.close
     (tie.spec
-    Inv-loop
-    μ-loop
-    lent-enough-requires
-    returns
-    loop-holds
-    same-length
-    returns-2
-    meet-node-requires
+    next-leaf-requires
     enum-told
-    same-length-2
-    returns-3
-    enum-known-further
-    loop-less
-    loop-again
+    enum-told-2
+    enum-known-here
     mul-e
     shared-slice-read-e
+    same-length
+    returns
+    add-at-place
+    at-place-requires
+    same-length-2
+    returns-2
     same-length-3
-    returns-4
-    add-t20
+    returns-3
     same-length-4
-    returns-5)
+    returns-4)

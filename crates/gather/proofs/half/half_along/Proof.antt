@@ -18,7 +18,7 @@ use Rattle.rays.specs.Numbered.{halfCrossingAt}
 use Rattle.rays.specs.Reach.{halfRect}
 use Rattle.gather.specs.Collections.{WalkedSound}
 use Rattle.gather.specs.Regions.{Enough}
-use Rattle.gather.specs.Halves.{ParityAll}
+use Rattle.gather.specs.Halves.{ParityTo}
 use Rattle.gather.proofs.Placing.{walked-sound}
 use Rattle.gather.proofs.HalfCrossing.{half-on, half-parity}
 use Rattle.gather.proofs.Looking.{looked-short, looked-at, looked-never}
@@ -57,7 +57,7 @@ enum-told-2 : tie.Need-enum-told-2
 enum-told-2 c = search needs
 
 -- what a whole walk says
-counted : (c : tie.After-odd-place) → WalkedSound (c .before .before .before .before .before .before .before .before .before .before .before .before .args .state .corners) (c .before .before .before .before .before .before .before .before .before .before .before .before .args .state .rings) (c .before .before .before .before .before .before .before .before .before .before .before .before .args .corners .now) (c .before .before .before .before .before .before .before .before .before .before .before .before .args .rings .now) (c .before .before .before .before .before .before .before .before .before .before .before .before .args .boxes .now) (c .before .before .before .before .before .before .before .before .before .before .before .before .args .parts .now) (c .before .before .before .before .before .before .before .before .before .before .before .before .args .edges .now) → ParityAll (c .before .before .before .before .before .before .before .before .before .before .before .before .args .state .corners) (c .before .before .before .before .before .before .before .before .before .before .before .before .args .corners .now) (c .before .before .before .before .before .before .before .before .before .before .before .before .args .rings .now) (c .before .before .before .before .before .before .before .before .before .before .before .before .args .edges .now) (Meeting (c .before .before .before .before .before .half-rect .result)) (halfCrossingAt (c .before .before .before .before .before .before .before .before .before .before .before .before .args .state .corners) (c .before .before .before .before .before .before .before .before .before .before .before .before .args .corners .now) (c .before .before .before .before .before .before .before .before .before .before .before .before .args .rings .now) (c .before .before .before .before .before .before .before .before .before .before .before .before .args .ray) (c .before .before .before .before .before .before .before .before .before .before .before .before .args .p)) (c .before .before .odd .given .0 .0)
+counted : (c : tie.After-odd-place) → WalkedSound (c .before .before .before .before .before .before .before .before .before .before .before .before .args .state .corners) (c .before .before .before .before .before .before .before .before .before .before .before .before .args .state .rings) (c .before .before .before .before .before .before .before .before .before .before .before .before .args .corners .now) (c .before .before .before .before .before .before .before .before .before .before .before .before .args .rings .now) (c .before .before .before .before .before .before .before .before .before .before .before .before .args .boxes .now) (c .before .before .before .before .before .before .before .before .before .before .before .before .args .parts .now) (c .before .before .before .before .before .before .before .before .before .before .before .before .args .edges .now) → ParityTo (c .before .before .before .before .before .before .before .before .before .before .before .before .args .state .corners) (c .before .before .before .before .before .before .before .before .before .before .before .before .args .corners .now) (c .before .before .before .before .before .before .before .before .before .before .before .before .args .rings .now) (c .before .before .before .before .before .before .before .before .before .before .before .before .args .edges .now) (Meeting (c .before .before .before .before .before .half-rect .result)) (halfCrossingAt (c .before .before .before .before .before .before .before .before .before .before .before .before .args .state .corners) (c .before .before .before .before .before .before .before .before .before .before .before .before .args .corners .now) (c .before .before .before .before .before .before .before .before .before .before .before .before .args .rings .now) (c .before .before .before .before .before .before .before .before .before .before .before .before .args .ray) (c .before .before .before .before .before .before .before .before .before .before .before .before .args .p)) (c .before .before .odd .given .0 .0)
 counted c = rw (c .before .before .odd .given .1) at (c .before .before .before .before .parity-by .ensures)
 
 returns-2 : tie.Need-returns-2
@@ -65,7 +65,7 @@ returns-2 c =
     let a = c .before .before .before .before .before .before .before .before .before .before .before .before .args in
     let rect : c .before .before .before .before .before .half-rect .result ≡ halfRect (a .ray) (rectAt (a .boxes .now) 0) (a .p) = c .before .before .before .before .before .half-rect .ensures ∙ ap (λ root. halfRect (a .ray) root (a .p)) (c .before .before .before .before .before .before .rect-at .ensures) in
     looked-at (a .state) (a .corners .now) (a .rings .now) (a .polygons .now) (a .boxes .now) (a .parts .now) (a .edges .now) (halfReply (ringsOf (planOf (a .state) (a .corners .now) (a .rings .now) (a .polygons .now))) (a .p)) (long (c .before .before .before .before .before .before .before)) (c .odd-place .result) (λ S. c .odd-place .ensures ∙ half-parity (a .state) (a .corners .now) (a .rings .now) (a .polygons .now) (a .boxes .now) (a .parts .now) (a .edges .now) S (a .ray) (a .p) (c .before .before .odd .given .0 .0)
-    (subst (λ (r : Rect). ParityAll (a .state .corners) (a .corners .now) (a .rings .now) (a .edges .now) (Meeting r) (halfCrossingAt (a .state .corners) (a .corners .now) (a .rings .now) (a .ray) (a .p)) (c .before .before .odd .given .0 .0)) rect (counted c (walked-sound (a .state) (a .corners .now) (a .rings .now) (a .polygons .now) (a .boxes .now) (a .parts .now) (a .edges .now) S))))
+    (subst (λ (r : Rect). ParityTo (a .state .corners) (a .corners .now) (a .rings .now) (a .edges .now) (Meeting r) (halfCrossingAt (a .state .corners) (a .corners .now) (a .rings .now) (a .ray) (a .p)) (c .before .before .odd .given .0 .0)) rect (counted c (walked-sound (a .state) (a .corners .now) (a .rings .now) (a .polygons .now) (a .boxes .now) (a .parts .now) (a .edges .now) S))))
 
 returns-3 : tie.Need-returns-3
 returns-3 c =

@@ -1,16 +1,23 @@
--- `gather::half::parity_by` meets its contract.
+-- `gather::half::parity_by` meets its contract, leaf by leaf.
 use borrow.Author.Needs.{needs}
-use Rattle.gather.proofs.half.parity_by.Statement.{statement}
-use Rattle.gather.proofs.half.parity_by.Tie as tie
-use mathlib.Core.Path.{_≡_, refl, _∙_}
+use mathlib.Core.Path.{_≡_, refl, sym, _∙_, subst}
+use mathlib.Core.Bool.{true}
+use Prim.Native.Nat.{ℕ, _<_}
 use native.Mathlib.Omega.{arith}
-use lib.ListN.{length}
-use Rattle.walk.specs.Steps.{remaining, Yields}
+use lib.ListN.{length, getD}
+use Rattle.rings.specs.Crossings.{isOn}
+use Rattle.boxes.specs.Rings.{RingEnds}
+use Rattle.index.proofs.Soundness.{edge-in}
+use Rattle.walk.specs.declared.Cursor.{Cursor}
+use Rattle.walk.specs.declared.Query.{Query}
+use Rattle.walk.specs.Steps.{remaining, InHand}
 use Rattle.rays.specs.Numbered.{halfCrossingAt}
 use Rattle.gather.specs.Collections.{WalkedSound}
-use Rattle.gather.specs.Halves.{CrossedTo}
-use Rattle.gather.proofs.Collecting.{edge-sound}
+use Rattle.gather.specs.Halves.{ParityTo}
+use Rattle.gather.proofs.Collecting.{leaf-sound}
 use Rattle.gather.proofs.HalfCrossing.{HalfWalking, crossing-start, crossing-on, crossing-end, crossing-never}
+use Rattle.gather.proofs.half.parity_by.Statement.{statement}
+use Rattle.gather.proofs.half.parity_by.Tie as tie
 
 abbrev Inv-loop : tie.InvT-loop
 Inv-loop ray query corners rings boxes parts edges n count p stack₀ cursor₀ odd₀ near₀ stack cursor odd near =
@@ -27,11 +34,11 @@ loop-holds c =
     let a = c .before .before .before .args in
     (refl, λ S. crossing-start (a .n) (a .count) (a .corners .now) (a .rings .now) (a .boxes .now) (a .parts .now) (a .edges .now) S (a .query) (halfCrossingAt (a .n) (a .corners .now) (a .rings .now) (a .ray) (a .p)) _ (c .start .result) (omega arith) refl (c .start .ensures))
 
-slice-aggregate-next : tie.Need-slice-aggregate-next Inv-loop μ-loop
-slice-aggregate-next c = search needs
+slice-aggregate-next-leaf : tie.Need-slice-aggregate-next-leaf Inv-loop μ-loop
+slice-aggregate-next-leaf c = search needs
 
-next-requires : tie.Need-next-requires Inv-loop μ-loop
-next-requires c κs = search needs
+next-leaf-requires : tie.Need-next-leaf-requires Inv-loop μ-loop
+next-leaf-requires c κs = search needs
 
 enum-told : tie.Need-enum-told Inv-loop μ-loop
 enum-told c = search needs
@@ -40,7 +47,7 @@ returns : tie.Need-returns Inv-loop μ-loop
 returns c =
     let a = c .before .before .before .before .before .before .before .before .before .args in
     let l = c .before .before .before .before .before .loop in
-    λ S. crossing-never (a .n) (a .count) (a .corners .now) (a .rings .now) (a .boxes .now) (a .parts .now) (a .edges .now) S (a .query) (halfCrossingAt (a .n) (a .corners .now) (a .rings .now) (a .ray) (a .p)) (l .stack) (l .cursor) (l .odd) (l .inv .1 S) (rw (c .enum-told .given .1) at (c .before .before .before .next .ensures))
+    λ S. crossing-never (a .n) (a .count) (a .corners .now) (a .rings .now) (a .boxes .now) (a .parts .now) (a .edges .now) S (a .query) (halfCrossingAt (a .n) (a .corners .now) (a .rings .now) (a .ray) (a .p)) (l .stack) (l .cursor) (l .odd) (l .inv .1 S) (rw (c .enum-told .given .1) at (c .before .before .before .next-leaf .ensures))
 
 enum-told-2 : tie.Need-enum-told-2 Inv-loop μ-loop
 enum-told-2 c = search needs
@@ -49,47 +56,70 @@ returns-2 : tie.Need-returns-2 Inv-loop μ-loop
 returns-2 c =
     let a = c .before .before .before .before .before .before .before .before .before .args in
     let l = c .before .before .before .before .before .loop in
-    λ S. crossing-end (a .n) (a .count) (a .corners .now) (a .rings .now) (a .boxes .now) (a .parts .now) (a .edges .now) S (a .query) (halfCrossingAt (a .n) (a .corners .now) (a .rings .now) (a .ray) (a .p)) (l .stack) (l .cursor) (l .odd) (l .inv .1 S) (rw (c .enum-told2 .given .1) at (c .before .before .before .next .ensures))
+    λ S. crossing-end (a .n) (a .count) (a .corners .now) (a .rings .now) (a .boxes .now) (a .parts .now) (a .edges .now) S (a .query) (halfCrossingAt (a .n) (a .corners .now) (a .rings .now) (a .ray) (a .p)) (l .stack) (l .cursor) (l .odd) (l .inv .1 S) (rw (c .enum-told2 .given .1) at (c .before .before .before .next-leaf .ensures))
 
-enum-known-e : tie.Need-enum-known-e Inv-loop μ-loop
-enum-known-e c = search needs
+enum-known-leaf : tie.Need-enum-known-leaf Inv-loop μ-loop
+enum-known-leaf c = search needs
 
-cross-requires : tie.Need-cross-requires Inv-loop μ-loop
-cross-requires c κs = search needs
+-- the leaf in hand
+in-hand : (c : tie.After-known-told Inv-loop μ-loop) → let a = c .before .before .before .before .before .before .before .before .before .before .args in let l = c .before .before .before .before .before .before .loop in
+    InHand (a .n) (a .boxes .now) (a .parts .now) (a .edges .now) (a .query) (l .stack) (l .cursor) (c .before .before .before .before .next-leaf .last .0) (c .before .leaf .given .0 .0)
+in-hand c = rw (c .before .leaf .given .1) at (c .before .before .before .before .next-leaf .ensures)
+
+cross-leaf-requires : tie.Need-cross-leaf-requires Inv-loop μ-loop
+cross-leaf-requires c κs =
+    let H = in-hand c in
+    (omega (arith, H .some), omega (arith, H .going .inside, H .going .lent .edges-reach))
 
 enum-told-3 : tie.Need-enum-told-3 Inv-loop μ-loop
 enum-told-3 c = search needs
 
--- what a step that yields an edge says
-yields : (c : tie.After-known-told Inv-loop μ-loop) → Yields (c .before .before .before .before .before .before .before .before .before .before .args .n) (c .before .before .before .before .before .before .before .before .before .before .args .boxes .now) (c .before .before .before .before .before .before .before .before .before .before .args .parts .now) (c .before .before .before .before .before .before .before .before .before .before .args .edges .now) (c .before .before .before .before .before .before .before .before .before .before .args .query) (c .before .before .before .before .before .before .loop .stack) (c .before .before .before .before .before .before .loop .cursor) (c .before .before .before .before .next .last .0) (c .before .e .given .0 .0) (c .before .e .given .0 .1 .0)
-yields c = rw (c .before .e .given .1) at (c .before .before .before .before .next .ensures)
-
 returns-3 : tie.Need-returns-3 Inv-loop μ-loop
 returns-3 c =
     let a = c .before .before .before .before .before .before .before .before .before .before .before .before .before .args in
-    λ S. edge-sound (a .n) (a .count) (a .corners .now) (a .rings .now) (a .boxes .now) (a .parts .now) (a .edges .now) S (a .ray) (a .query) (a .p) (c .before .before .before .before .e .given .0 .0) (yields (c .before .before .before) .edge) (rw (c .enum-told3 .given .1) at (c .before .before .cross .ensures))
+    let H = in-hand (c .before .before .before) in
+    λ S. leaf-sound (a .n) (a .count) (a .corners .now) (a .rings .now) (a .boxes .now) (a .parts .now) (a .edges .now) S (a .ray) (a .query) (a .p) (c .before .before .before .before .leaf .given .0 .0 .at) (c .before .before .before .before .leaf .given .0 .0 .to) (H .going .inside) (rw (c .enum-told3 .given .1) at (c .before .before .cross-leaf .ensures))
 
 enum-told-4 : tie.Need-enum-told-4 Inv-loop μ-loop
 enum-told-4 c = search needs
 
+-- the edge of the leaf that the point is on
+on-edge : (c : tie.After-enum-told4 Inv-loop μ-loop) → let a = c .before .before .before .before .before .before .before .before .before .before .before .before .before .args in
+    (k : ℕ) × (k < c .before .before .before .before .leaf .given .0 .0 .to) × (RingEnds (a .n) (a .count) (a .rings .now) → isOn (halfCrossingAt (a .n) (a .corners .now) (a .rings .now) (a .ray) (a .p) (getD (a .edges .now) k 0)) ≡ true)
+on-edge c = rw (c .enum-told4 .given .1) at (c .before .before .cross-leaf .ensures)
+
 returns-4 : tie.Need-returns-4 Inv-loop μ-loop
-returns-4 c = λ S. record { edge = c .before .before .before .before .e .given .0 .0; inside = yields (c .before .before .before) .edge; on = (rw (c .enum-told4 .given .1) at (c .before .before .cross .ensures)) (S .ends) }
+returns-4 c =
+    let a = c .before .before .before .before .before .before .before .before .before .before .before .before .before .args in
+    let H = in-hand (c .before .before .before) in
+    let E = on-edge c in
+    λ S. record { edge = getD (a .edges .now) (E .0) 0; inside = edge-in (a .n) (a .corners .now) (a .rings .now) (a .boxes .now) (a .parts .now) (a .edges .now) (S .walk .index) (E .0) (omega (arith, E .1, H .going .inside)); on = E .2 (S .ends) }
 
 enum-known-odd-then : tie.Need-enum-known-odd-then Inv-loop μ-loop
 enum-known-odd-then c = search needs
 
--- what an edge that is counted says
-counted : (c : tie.After-known-told2 Inv-loop μ-loop) → CrossedTo (c .before .before .before .before .before .before .before .before .before .before .before .before .before .before .args .n) (c .before .before .before .before .before .before .before .before .before .before .before .before .before .before .args .count) (c .before .before .before .before .before .before .before .before .before .before .before .before .before .before .args .rings .now) (halfCrossingAt (c .before .before .before .before .before .before .before .before .before .before .before .before .before .before .args .n) (c .before .before .before .before .before .before .before .before .before .before .before .before .before .before .args .corners .now) (c .before .before .before .before .before .before .before .before .before .before .before .before .before .before .args .rings .now) (c .before .before .before .before .before .before .before .before .before .before .before .before .before .before .args .ray) (c .before .before .before .before .before .before .before .before .before .before .before .before .before .before .args .p)) (c .before .before .before .before .before .before .before .before .before .before .loop .odd) (c .before .before .before .before .before .e .given .0 .0) (c .before .odd-then .given .0 .0)
-counted c = rw (c .before .odd-then .given .1) at (c .before .before .before .cross .ensures)
+-- what a leaf that is counted says
+counted : (c : tie.After-known-told2 Inv-loop μ-loop) → let a = c .before .before .before .before .before .before .before .before .before .before .before .before .before .before .args in let leaf = c .before .before .before .before .before .leaf .given .0 .0 in
+    (query : Query) → RingEnds (a .n) (a .count) (a .rings .now) → ParityTo (leaf .at) (a .corners .now) (a .rings .now) (a .edges .now) query (halfCrossingAt (a .n) (a .corners .now) (a .rings .now) (a .ray) (a .p)) (c .before .before .before .before .before .before .before .before .before .before .loop .odd) → ParityTo (leaf .to) (a .corners .now) (a .rings .now) (a .edges .now) query (halfCrossingAt (a .n) (a .corners .now) (a .rings .now) (a .ray) (a .p)) (c .before .odd-then .given .0 .0)
+counted c = rw (c .before .odd-then .given .1) at (c .before .before .before .cross-leaf .ensures)
+
+past-leaf-requires : tie.Need-past-leaf-requires Inv-loop μ-loop
+past-leaf-requires c κs = search needs
 
 loop-less : tie.Need-loop-less Inv-loop μ-loop
-loop-less c = yields (c .before .before .before .before) .less
+loop-less c =
+    let H = in-hand (c .before .before .before .before .before) in
+    subst (λ (x : Cursor). remaining x < remaining (c .before .before .before .before .before .before .before .before .before .before .before .loop .cursor)) (sym (c .past-leaf .ensures)) (omega (arith, H .some, H .going .near))
 
 loop-again : tie.Need-loop-again Inv-loop μ-loop
 loop-again c =
-    let a = c .before .before .before .before .before .before .before .before .before .before .before .before .before .before .args in
-    let l = c .before .before .before .before .before .before .before .before .before .before .loop in
-    (c .before .before .before .before .before .before .before .before .next .kept .0 ∙ l .inv .0, λ S. crossing-on (a .n) (a .count) (a .corners .now) (a .rings .now) (a .boxes .now) (a .parts .now) (a .edges .now) S (a .query) (halfCrossingAt (a .n) (a .corners .now) (a .rings .now) (a .ray) (a .p)) (l .stack) (l .cursor) (l .odd) (l .inv .1 S) _ _ _ _ (yields (c .before .before .before .before)) (counted c))
+    let a = c .before .before .before .before .before .before .before .before .before .before .before .before .before .before .before .args in
+    let l = c .before .before .before .before .before .before .before .before .before .before .before .loop in
+    let H = in-hand (c .before .before .before .before .before) in (
+      c .before .before .before .before .before .before .before .before .before .next-leaf .kept .0 ∙ l .inv .0,
+      λ S. subst (λ (x : Cursor). HalfWalking (a .n) (a .corners .now) (a .rings .now) (a .parts .now) (a .edges .now) (a .query) (halfCrossingAt (a .n) (a .corners .now) (a .rings .now) (a .ray) (a .p)) (c .before .before .before .before .before .before .before .before .before .next-leaf .last .0) x (c .before .before .odd-then .given .0 .0)) (sym (c .past-leaf .ensures))
+          (crossing-on (a .n) (a .count) (a .corners .now) (a .rings .now) (a .boxes .now) (a .parts .now) (a .edges .now) S (a .query) (halfCrossingAt (a .n) (a .corners .now) (a .rings .now) (a .ray) (a .p)) (l .stack) (l .cursor) (l .odd) (l .inv .1 S) _ _ _ H (counted (c .before))),
+    )
 
 pub parity-by-spec : {M : Type 1} → statement M
 parity-by-spec =
@@ -99,18 +129,19 @@ parity-by-spec =
     μ-loop
     start-requires
     loop-holds
-    slice-aggregate-next
-    next-requires
+    slice-aggregate-next-leaf
+    next-leaf-requires
     enum-told
     returns
     enum-told-2
     returns-2
-    enum-known-e
-    cross-requires
+    enum-known-leaf
+    cross-leaf-requires
     enum-told-3
     returns-3
     enum-told-4
     returns-4
     enum-known-odd-then
+    past-leaf-requires
     loop-less
     loop-again)

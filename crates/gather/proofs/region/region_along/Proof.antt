@@ -36,8 +36,8 @@ enum-known-location c = search needs
 enum-told : tie.Need-enum-told
 enum-told c = search needs
 
-many-rings-requires : tie.Need-many-rings-requires
-many-rings-requires c κs = (c .before .before .before .if2 .left, omega (arith, long (c .before .before .before .before .before) .boxes-reach, node-count-some (c .before .before .before .before .before .before .before .before .before .before .args .state .corners)))
+second-walk-requires : tie.Need-second-walk-requires
+second-walk-requires c κs = (c .before .before .before .if2 .left, omega (arith, long (c .before .before .before .before .before) .boxes-reach, node-count-some (c .before .before .before .before .before .before .before .before .before .before .args .state .corners)))
 
 answer-requires : tie.Need-answer-requires
 answer-requires c κs = search needs
@@ -53,7 +53,7 @@ returns-3 c =
 returns-4 : tie.Need-returns-4
 returns-4 c =
     let a = c .before .before .before .before .before .before .before .before .before .before .before .before .args in
-    rw (c .answer .ensures) (looked-all (a .state) (a .corners .now) (a .rings .now) (a .polygons .now) (a .boxes .now) (a .parts .now) (a .edges .now) (regionReply (planOf (a .state) (a .corners .now) (a .rings .now) (a .polygons .now)) (a .p)) (long (c .before .before .before .before .before .before .before)) (c .before .many-rings .result) (c .before .many-rings .ensures))
+    rw (c .answer .ensures) (looked-all (a .state) (a .corners .now) (a .rings .now) (a .polygons .now) (a .boxes .now) (a .parts .now) (a .edges .now) (regionReply (planOf (a .state) (a .corners .now) (a .rings .now) (a .polygons .now)) (a .p)) (long (c .before .before .before .before .before .before .before)) (c .before .second-walk .result) (c .before .second-walk .ensures))
 
 returns-5 : tie.Need-returns-5
 returns-5 c =
@@ -70,7 +70,7 @@ region-along-spec =
     few-rings-requires
     enum-known-location
     enum-told
-    many-rings-requires
+    second-walk-requires
     answer-requires
     enum-told-2
     returns-3

@@ -2,19 +2,15 @@
 use borrow.Author.Needs.{needs}
 use Rattle.gather.proofs.region.region_by.Statement.{statement}
 use Rattle.gather.proofs.region.region_by.Tie as tie
-use mathlib.Core.Path.{_≡_, ap, _∙_, subst}
-use Rattle.geom.specs.declared.Rect.{Rect}
-use Rattle.boxes.specs.Boxes.{rectAt}
-use Rattle.walk.specs.declared.Query.the-variants.{Meeting}
-use Rattle.rays.specs.Reach.{rayRect}
+use mathlib.Core.Path.{subst}
+use Rattle.walk.specs.declared.Query.{Query}
+use Prim.Native.Nat.{ℕ}
+use Rattle.rules.specs.declared.Kind.{Kind}
+use Rattle.rules.specs.Tables.{polygonsIn}
 use Rattle.gather.specs.Collections.{ToldAll, Gathered}
+use Rattle.gather.specs.Regions.{FoldSays}
+use Rattle.gather.proofs.Looking.{fold-stated}
 use Rattle.gather.proofs.Placing.{walked-sound, region-told}
-
-rect-at-requires : tie.Need-rect-at-requires
-rect-at-requires c κs = search needs
-
-ray-rect-requires : tie.Need-ray-rect-requires
-ray-rect-requires c κs = search needs
 
 collect-requires : tie.Need-collect-requires
 collect-requires c κs = search needs
@@ -29,11 +25,11 @@ enum-known-whole : tie.Need-enum-known-whole
 enum-known-whole c = search needs
 
 -- what a whole walk says
-gathered : (c : tie.After-fold-slots-arg2) → Gathered (c .before .before .before .before .before .before .before .before .before .before .before .before .before .before .before .before .before .args .state .corners) (c .before .before .before .before .before .before .before .before .before .before .before .before .before .before .before .before .before .args .state .rings) (c .before .before .before .before .before .before .before .before .before .before .before .before .before .before .before .before .before .args .corners .now) (c .before .before .before .before .before .before .before .before .before .before .before .before .before .before .before .before .before .args .rings .now) (c .before .before .before .before .before .before .before .before .before .before .before .before .before .before .before .before .before .args .boxes .now) (c .before .before .before .before .before .before .before .before .before .before .before .before .before .before .before .before .before .args .parts .now) (c .before .before .before .before .before .before .before .before .before .before .before .before .before .before .before .before .before .args .edges .now) (c .before .before .before .before .before .before .before .before .before .before .before .before .before .before .before .before .before .args .ray) (Meeting (c .before .before .before .before .before .before .before .before .before .before .before .ray-rect .result)) (c .before .before .before .before .before .before .before .before .before .before .before .before .before .before .before .before .before .args .p) (c .before .before .before .before .before .before .before .before .before .before .before .before .before .before .before .before .before .args .layout) (c .before .before .before .before .before .before .before .before .before .before .before .before .before .before .before .before .before .args .listed .now) (c .before .before .before .before .before .before .before .before .before .before .before .before .before .before .before .before .before .args .slots .now) (c .before .before .before .before .before .before .before .before .collect .last .1 .1 .1 .1 .1 .1 .1 .1 .1 .1 .1 .0) (c .before .before .before .before .before .before .before .before .collect .last .1 .1 .1 .1 .1 .1 .1 .1 .1 .1 .1 .1 .0) (c .before .before .before .whole .given .0 .0)
+gathered : (c : tie.After-fold-slots-arg2) → Gathered (c .before .before .before .before .before .before .before .before .before .before .before .before .before .before .before .args .state .corners) (c .before .before .before .before .before .before .before .before .before .before .before .before .before .before .before .args .state .rings) (c .before .before .before .before .before .before .before .before .before .before .before .before .before .before .before .args .corners .now) (c .before .before .before .before .before .before .before .before .before .before .before .before .before .before .before .args .rings .now) (c .before .before .before .before .before .before .before .before .before .before .before .before .before .before .before .args .boxes .now) (c .before .before .before .before .before .before .before .before .before .before .before .before .before .before .before .args .parts .now) (c .before .before .before .before .before .before .before .before .before .before .before .before .before .before .before .args .edges .now) (c .before .before .before .before .before .before .before .before .before .before .before .before .before .before .before .args .ray) (c .before .before .before .before .before .before .before .before .before .before .before .before .before .before .before .args .query) (c .before .before .before .before .before .before .before .before .before .before .before .before .before .before .before .args .p) (c .before .before .before .before .before .before .before .before .before .before .before .before .before .before .before .args .layout) (c .before .before .before .before .before .before .before .before .before .before .before .before .before .before .before .args .listed .now) (c .before .before .before .before .before .before .before .before .before .before .before .before .before .before .before .args .slots .now) (c .before .before .before .before .before .before .before .before .collect .last .1 .1 .1 .1 .1 .1 .1 .1 .1 .1 .1 .0) (c .before .before .before .before .before .before .before .before .collect .last .1 .1 .1 .1 .1 .1 .1 .1 .1 .1 .1 .1 .0) (c .before .before .before .whole .given .0 .0)
 gathered c = rw (c .before .before .before .whole .given .1) at (c .before .before .before .before .before .before .before .before .collect .ensures)
 
 fold-slots-requires : tie.Need-fold-slots-requires
-fold-slots-requires c κs = (gathered c .room, c .before .before .before .before .before .before .before .before .before .before .before .before .before .before .before .before .before .pre .1 .0)
+fold-slots-requires c κs = (gathered c .room, c .before .before .before .before .before .before .before .before .before .before .before .before .before .before .before .pre .1 .0)
 
 same-length : tie.Need-same-length
 same-length c = search needs
@@ -43,7 +39,7 @@ same-length-2 c = search needs
 
 returns : tie.Need-returns
 returns c =
-    let a = c .before .before .before .before .before .before .before .before .before .before .before .before .before .before .args in
+    let a = c .before .before .before .before .before .before .before .before .before .before .before .before .args in
     λ S. (rw (c .enum-told .given .1) at (c .before .before .before .before .before .collect .ensures)) (walked-sound (a .state) (a .corners .now) (a .rings .now) (a .polygons .now) (a .boxes .now) (a .parts .now) (a .edges .now) (S .0)) (S .1)
 
 same-length-3 : tie.Need-same-length-3
@@ -63,18 +59,17 @@ same-length-6 c = search needs
 
 returns-3 : tie.Need-returns-3
 returns-3 c =
-    let a = c .before .before .before .before .before .before .before .before .before .before .before .before .before .before .before .before .before .before .args in
-    let rect : c .before .before .before .before .before .before .before .before .before .before .before .before .ray-rect .result ≡ rayRect (a .ray) (rectAt (a .boxes .now) 0) (a .p) = c .before .before .before .before .before .before .before .before .before .before .before .before .ray-rect .ensures ∙ ap (λ root. rayRect (a .ray) root (a .p)) (c .before .before .before .before .before .before .before .before .before .before .before .before .before .rect-at .ensures) in
+    let a = c .before .before .before .before .before .before .before .before .before .before .before .before .before .before .before .before .args in
     λ S. region-told (a .state) (a .corners .now) (a .rings .now) (a .polygons .now) (a .boxes .now) (a .parts .now) (a .edges .now) (S .0) (a .ray) (a .p) (c .before .before .before .before .whole .given .0 .0) _ _
-    (subst (λ (r : Rect). ToldAll (a .state .corners) (a .state .rings) (a .corners .now) (a .rings .now) (a .edges .now) (a .ray) (Meeting r) (a .p) (c .before .before .before .before .whole .given .0 .0) (c .before .before .before .before .before .before .before .before .before .collect .last .1 .1 .1 .1 .1 .1 .1 .1 .1 .1 .1 .0) (c .before .before .before .before .before .before .before .before .before .collect .last .1 .1 .1 .1 .1 .1 .1 .1 .1 .1 .1 .1 .0)) rect (gathered (c .before) .told (walked-sound (a .state) (a .corners .now) (a .rings .now) (a .polygons .now) (a .boxes .now) (a .parts .now) (a .edges .now) (S .0)) (S .1)))
-    (c .fold-slots .result) (c .fold-slots .ensures)
+    (subst (λ (q : Query). ToldAll (a .state .corners) (a .state .rings) (a .corners .now) (a .rings .now) (a .edges .now) (a .ray) q (a .p) (c .before .before .before .before .whole .given .0 .0) (c .before .before .before .before .before .before .before .before .before .collect .last .1 .1 .1 .1 .1 .1 .1 .1 .1 .1 .1 .0) (c .before .before .before .before .before .before .before .before .before .collect .last .1 .1 .1 .1 .1 .1 .1 .1 .1 .1 .1 .1 .0)) (c .before .before .before .before .before .before .before .before .before .before .before .before .before .before .before .before .pre .1 .3) (gathered (c .before) .told (walked-sound (a .state) (a .corners .now) (a .rings .now) (a .polygons .now) (a .boxes .now) (a .parts .now) (a .edges .now) (S .0)) (S .1)))
+    (c .fold-slots .result) (fold-stated (a .state .kind) (a .state .polygons) (a .polygons .now) (a .state .rings) (c .before .before .before .before .whole .given .0 .0) (c .before .before .before .before .before .before .before .before .before .collect .last .1 .1 .1 .1 .1 .1 .1 .1 .1 .1 .1 .0) (c .before .before .before .before .before .before .before .before .before .collect .last .1 .1 .1 .1 .1 .1 .1 .1 .1 .1 .1 .1 .0) (c .fold-slots .result)
+    (subst (λ (k : Kind). FoldSays k (a .polygons .now) (polygonsIn (a .state .kind) (a .state .polygons)) (a .state .rings) (c .before .before .before .before .whole .given .0 .0) (c .before .before .before .before .before .before .before .before .before .collect .last .1 .1 .1 .1 .1 .1 .1 .1 .1 .1 .1 .0) (c .before .before .before .before .before .before .before .before .before .collect .last .1 .1 .1 .1 .1 .1 .1 .1 .1 .1 .1 .1 .0) (c .fold-slots .result)) (c .before .before .before .before .before .before .before .before .before .before .before .before .before .before .before .before .pre .1 .1)
+    (subst (λ (m : ℕ). FoldSays (a .kind) (a .polygons .now) m (a .state .rings) (c .before .before .before .before .whole .given .0 .0) (c .before .before .before .before .before .before .before .before .before .collect .last .1 .1 .1 .1 .1 .1 .1 .1 .1 .1 .1 .0) (c .before .before .before .before .before .before .before .before .before .collect .last .1 .1 .1 .1 .1 .1 .1 .1 .1 .1 .1 .1 .0) (c .fold-slots .result)) (c .before .before .before .before .before .before .before .before .before .before .before .before .before .before .before .before .pre .1 .2) (c .fold-slots .ensures))))
 
 pub region-by-spec : {M : Type 1} → statement M
 region-by-spec =
     tie.close
     (tie.spec
-    rect-at-requires
-    ray-rect-requires
     collect-requires
     enum-told
     enum-told-2
