@@ -12,7 +12,8 @@ use Rattle.text.specs.Words.{plan, list, outer}
 use Rattle.answers.specs.declared.Outcome.{Outcome}
 use Rattle.answers.specs.declared.Outcome.the-variants.{Written, OutputTooShort}
 use Rattle.answers.specs.Answers.{answered, outcomeNumber, outputAfter, Answered}
-use Rattle.answers.specs.Words.{gridWord, inside, outside, boundary}
+use Rattle.asked.specs.Words.{gridWord}
+use Rattle.answers.specs.Words.{inside, outside, boundary}
 use Rattle.answers.proofs.Worked.{lines, _⇥_, n0, n1, n4, n5, worked, worked-output, worked-answered, turned, turned-answered, refusal, too-long, no-query, stops, two-first}
 
 -- with an output that is long enough: how many bytes are written, and the output whole

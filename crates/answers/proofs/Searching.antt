@@ -14,7 +14,7 @@ use Rattle.fields.proofs.Pieces.{piece-cut, search-within}
 use Rattle.fields.proofs.Parted.{last-part}
 use Rattle.rules.specs.Plans.{Plan}
 use Rattle.text.proofs.FieldSearch.{some-piece}
-use Rattle.answers.specs.Queries.{asks}
+use Rattle.asked.specs.Queries.{asks}
 use Rattle.answers.specs.Replies.{replies}
 use Rattle.answers.specs.Answers.{planText, afterPlan, FirstQuery}
 use Rattle.answers.specs.Words.{lineEnd}

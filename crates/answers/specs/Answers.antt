@@ -14,7 +14,7 @@ use Rattle.text.specs.Plans.{Meaning, Start, Gives, Broken, meaning}
 use Rattle.answers.specs.declared.Outcome.{Outcome}
 use Rattle.answers.specs.declared.Outcome.the-variants.{Written, OutputTooShort}
 use Rattle.answers.specs.declared.parts.Place.{Place}
-use Rattle.answers.specs.Queries.{asks}
+use Rattle.asked.specs.Queries.{asks}
 use Rattle.answers.specs.Replies.{refusalLine, replies}
 use Rattle.answers.specs.Words.{lineEnd}
 

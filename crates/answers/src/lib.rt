@@ -8,7 +8,6 @@ ghost use Rattle.answers.specs.Replies.{replies, handed, Due};
 ghost use Rattle.answers.specs.Answers.{planText, judged, Admitted, Tables, Answered};
 
 mod parts;
-mod queries;
 mod replies;
 
 use parts::first_query;
