@@ -19,10 +19,10 @@ use Rattle.rules.specs.declared.Kind.the-variants.{Polygons}
 use Rattle.rules.specs.declared.Location.{Location}
 use Rattle.rules.specs.declared.Location.the-variants.{Outside, Inside, OnBoundary}
 use Rattle.rules.specs.Plans.{Plan, planReply, planHalfReply}
-use Rattle.text.specs.declared.records.Record.{Record}
-use Rattle.text.specs.Plans.{Meaning, Start, Gives, Broken, sizeOf, grown, emptyPlan, isHeader, allowed, afterLine, atEnd, afterLines, meaning}
-use Rattle.text.specs.Records.{recordOf}
-use Rattle.text.proofs.Spans.{span, span-split}
+use Rattle.lines.specs.declared.records.Record.{Record}
+use Rattle.lines.specs.Plans.{Meaning, Start, Gives, Broken, sizeOf, grown, emptyPlan, isHeader, allowed, afterLine, atEnd, afterLines, meaning}
+use Rattle.lines.specs.Records.{recordOf}
+use Rattle.lines.proofs.Spans.{span, span-split}
 use Rattle.asked.specs.declared.Line.{Line}
 use Rattle.asked.specs.declared.Line.the-variants.{Asks, Malformed}
 use Rattle.asked.specs.declared.Named.{Named}

@@ -8,7 +8,7 @@ use lib.ListN.{length, getD, drop, replicate}
 use lib.Seq.{getD-append-add, getD-drop}
 use borrow.Author.Tests.{lt-ltb, le-ltb}
 use Rattle.fields.specs.Written.{overwritten}
-use Rattle.text.specs.Words.{plan, list, outer}
+use Rattle.lines.specs.Words.{plan, list, outer}
 use Rattle.answers.specs.declared.Outcome.{Outcome}
 use Rattle.answers.specs.declared.Outcome.the-variants.{Written, OutputTooShort}
 use Rattle.answers.specs.Answers.{answered, outcomeNumber, outputAfter, Answered}

@@ -10,7 +10,7 @@ use Rattle.fields.specs.Written.{Wrote}
 use Rattle.fields.proofs.Pieces.{piece-cut, piece-last, search-within}
 use Rattle.fields.proofs.Written.{overwritten-length, wrote-on, nothing-written}
 use Rattle.rules.specs.Plans.{Plan}
-use Rattle.text.proofs.FieldSearch.{some-piece}
+use Rattle.lines.proofs.FieldSearch.{some-piece}
 use Rattle.asked.specs.declared.Line.the-variants.{Asks, Malformed}
 use Rattle.asked.specs.declared.Query.{Query}
 use Rattle.asked.specs.Queries.{queryOf}

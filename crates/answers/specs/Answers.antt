@@ -10,7 +10,7 @@ use Rattle.fields.specs.Pieces.{split}
 use Rattle.fields.specs.Written.{overwritten}
 use Rattle.rules.specs.declared.Verdict.the-variants.{Accepted}
 use Rattle.rules.specs.Plans.{Plan, cornerCount, planVerdict}
-use Rattle.text.specs.Plans.{Meaning, Start, Gives, Broken, meaning}
+use Rattle.lines.specs.Plans.{Meaning, Start, Gives, Broken, meaning}
 use Rattle.answers.specs.declared.Outcome.{Outcome}
 use Rattle.answers.specs.declared.Outcome.the-variants.{Written, OutputTooShort}
 use Rattle.answers.specs.declared.parts.Place.{Place}

@@ -9,7 +9,7 @@ use lib.ListN.{length, take, drop}
 use Rattle.fields.specs.Bytes.{sameBytes}
 use Rattle.fields.specs.Pieces.{upTo, split}
 use Rattle.fields.proofs.Parted.{one-piece, first-cut, two-pieces, three-pieces, third-cut}
-use Rattle.text.proofs.FieldSearch.{some-piece}
+use Rattle.lines.proofs.FieldSearch.{some-piece}
 use Rattle.asked.specs.declared.Line.the-variants.{Malformed}
 use Rattle.asked.specs.Queries.{wordQuery, queryOf, asks}
 use Rattle.asked.specs.Words.{gridWord, halfWord}
