@@ -19,20 +19,21 @@ use Rattle.rules.specs.declared.Kind.the-variants.{Polygons}
 use Rattle.rules.specs.declared.Location.{Location}
 use Rattle.rules.specs.declared.Location.the-variants.{Outside, Inside, OnBoundary}
 use Rattle.rules.specs.Plans.{Plan, planReply, planHalfReply}
-use Rattle.text.specs.declared.records.Record.{Record}
-use Rattle.text.specs.Plans.{Meaning, Start, Gives, Broken, sizeOf, grown, emptyPlan, isHeader, allowed, afterLine, atEnd, afterLines, meaning}
-use Rattle.text.specs.Records.{recordOf}
-use Rattle.text.proofs.Spans.{span, span-split}
-use Rattle.answers.specs.declared.queries.Line.{Line}
-use Rattle.answers.specs.declared.queries.Line.the-variants.{Asks, Malformed}
-use Rattle.answers.specs.declared.queries.Named.{Named}
-use Rattle.answers.specs.declared.queries.Named.the-variants as Named
-use Rattle.answers.specs.declared.queries.Query.{Query}
-use Rattle.answers.specs.declared.queries.Query.the-variants.{OnGrid, Doubled}
-use Rattle.answers.specs.Queries.{pointFrom, pointOf, gridQuery, halfQuery, wordQuery, queryOf, asks}
+use Rattle.lines.specs.declared.records.Record.{Record}
+use Rattle.lines.specs.Plans.{Meaning, Start, Gives, Broken, sizeOf, grown, emptyPlan, isHeader, allowed, afterLine, atEnd, afterLines, meaning}
+use Rattle.lines.specs.Records.{recordOf}
+use Rattle.lines.proofs.Spans.{span, span-split}
+use Rattle.asked.specs.declared.Line.{Line}
+use Rattle.asked.specs.declared.Line.the-variants.{Asks, Malformed}
+use Rattle.asked.specs.declared.Named.{Named}
+use Rattle.asked.specs.declared.Named.the-variants as Named
+use Rattle.asked.specs.declared.Query.{Query}
+use Rattle.asked.specs.declared.Query.the-variants.{OnGrid, Doubled}
+use Rattle.asked.specs.Queries.{pointFrom, pointOf, gridQuery, halfQuery, wordQuery, queryOf, asks}
 use Rattle.answers.specs.Replies.{placeWord, replyWord, replyLine, refusalLine, answerLine, answerEnd, replies}
 use Rattle.answers.specs.Answers.{planText, afterPlan, tooLarge, judged, answered}
-use Rattle.answers.specs.Words.{gridWord, halfWord, lineEnd}
+use Rattle.asked.specs.Words.{gridWord, halfWord}
+use Rattle.answers.specs.Words.{lineEnd}
 use Rattle.answers.proofs.Lines.{reply-length, refusal-length}
 
 -- ---- a query's line has eight bytes or more

@@ -13,13 +13,13 @@ use Rattle.rules.specs.declared.Refusal.the-variants.{TextTooLong, BadLine, Tab
 use Rattle.rules.specs.declared.Table.the-variants.{Corners, Rings, Polygons}
 use Rattle.rules.specs.Numbers.{refusalNumber}
 use Rattle.rules.specs.Plans.{Plan, cornerCount}
-use Rattle.text.specs.declared.Size.{Size}
+use Rattle.lines.specs.declared.Size.{Size}
 use Rattle.text.specs.declared.Reading.the-variants.{Read, Refused}
-use Rattle.text.specs.Plans.{Meaning, Start, Gives, Broken, meaning, sizeOf}
+use Rattle.lines.specs.Plans.{Meaning, Start, Gives, Broken, meaning, sizeOf}
 use Rattle.text.specs.Readings.{withRoom, readingOf, reading}
 use Rattle.text.proofs.Answers.{different, Given}
 use Rattle.text.proofs.Held.{lists-fit}
-use Rattle.text.proofs.Largest.{accepted}
+use Rattle.lines.proofs.Largest.{accepted}
 use Rattle.answers.specs.declared.parts.Place.{Place}
 use Rattle.answers.specs.Replies.{refusalLine, lineNamed, replies, Due}
 use Rattle.answers.specs.Answers.{planText, afterPlan, FirstQuery, tooLarge, Admitted, judged}

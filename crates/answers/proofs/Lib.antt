@@ -1,4 +1,3 @@
-mod FieldsAsked
 mod Lines
 mod LookUps
 mod Replying

@@ -34,11 +34,11 @@ use Rattle.prepare.specs.Tables.{Tables, roomOf, Prepared}
 use Rattle.prepare.proofs.Rooms.{accepted-next, ready-unindexed, ready-indexed, different}
 use Rattle.prepare.proofs.Readiness.{heldIn, held-range, held-reply, held-half, unmarked-near, marked-stray, plan-sound, index-sound}
 use Rattle.prepared.specs.Calls.{Looked}
-use Rattle.answers.specs.declared.queries.Line.{Line}
-use Rattle.answers.specs.declared.queries.Line.the-variants.{Asks, Malformed}
-use Rattle.answers.specs.declared.queries.Query.{Query}
-use Rattle.answers.specs.declared.queries.Query.the-variants.{OnGrid, Doubled}
-use Rattle.answers.specs.Queries.{queryOf}
+use Rattle.asked.specs.declared.Line.{Line}
+use Rattle.asked.specs.declared.Line.the-variants.{Asks, Malformed}
+use Rattle.asked.specs.declared.Query.{Query}
+use Rattle.asked.specs.declared.Query.the-variants.{OnGrid, Doubled}
+use Rattle.asked.specs.Queries.{queryOf}
 use Rattle.answers.specs.Replies.{placeWord, replyWord, replyLine, answerLine, replies, PreparedTables, Due}
 use Rattle.answers.specs.Answers.{Admitted}
 

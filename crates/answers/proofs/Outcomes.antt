@@ -9,7 +9,7 @@ use lib.Dec.{ltb}
 use borrow.Author.Tests.{lt-ltb, le-ltb, ltb-false}
 use Rattle.fields.specs.Pieces.{split}
 use Rattle.fields.specs.Written.{overwritten, Wrote}
-use Rattle.text.specs.Plans.{meaning}
+use Rattle.lines.specs.Plans.{meaning}
 use Rattle.answers.specs.declared.Outcome.the-variants.{Written, OutputTooShort}
 use Rattle.answers.specs.Replies.{refusalLine}
 use Rattle.answers.specs.Answers.{planText, judged, answered, Answered}

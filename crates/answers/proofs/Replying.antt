@@ -10,10 +10,10 @@ use Rattle.fields.specs.Written.{Wrote}
 use Rattle.fields.proofs.Pieces.{piece-cut, piece-last, search-within}
 use Rattle.fields.proofs.Written.{overwritten-length, wrote-on, nothing-written}
 use Rattle.rules.specs.Plans.{Plan}
-use Rattle.text.proofs.FieldSearch.{some-piece}
-use Rattle.answers.specs.declared.queries.Line.the-variants.{Asks, Malformed}
-use Rattle.answers.specs.declared.queries.Query.{Query}
-use Rattle.answers.specs.Queries.{queryOf}
+use Rattle.lines.proofs.FieldSearch.{some-piece}
+use Rattle.asked.specs.declared.Line.the-variants.{Asks, Malformed}
+use Rattle.asked.specs.declared.Query.{Query}
+use Rattle.asked.specs.Queries.{queryOf}
 use Rattle.answers.specs.Replies.{replyWord, replyLine, refusalLine, answerLine, answerEnd, replies, Due}
 
 -- ---- the definition, a line at a time

@@ -13,8 +13,8 @@ use Rattle.fields.specs.Pieces.{upTo, split}
 use Rattle.fields.proofs.Pieces.{piece-cut, search-within}
 use Rattle.fields.proofs.Parted.{last-part}
 use Rattle.rules.specs.Plans.{Plan}
-use Rattle.text.proofs.FieldSearch.{some-piece}
-use Rattle.answers.specs.Queries.{asks}
+use Rattle.lines.proofs.FieldSearch.{some-piece}
+use Rattle.asked.specs.Queries.{asks}
 use Rattle.answers.specs.Replies.{replies}
 use Rattle.answers.specs.Answers.{planText, afterPlan, FirstQuery}
 use Rattle.answers.specs.Words.{lineEnd}

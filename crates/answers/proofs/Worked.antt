@@ -11,13 +11,14 @@ use Rattle.rules.specs.Edges.{edgesFrom, edgesOf, allEdges, edgeWinding, windin
 use Rattle.rules.specs.Lists.{anyOf, countOf, sumOf, total, partsOf}
 use Rattle.rules.specs.Plans.{cornersOf, ringsOf, polygonsOf, allInRange, planInRange, planReply, planHalfReply}
 use Rattle.rules.specs.Replies.{ringReply, holesReply, polygonReply, listReply, treeReply, doubledEdges, halfReply}
-use Rattle.text.specs.Plans.{lastOneMore, grown, afterLines, meaning}
-use Rattle.text.specs.Records.{oneField, twoFields, threeFields, recordOf}
-use Rattle.text.specs.Words.{plan, list, outer, hole, at}
-use Rattle.answers.specs.Queries.{pointOf, wordQuery, queryOf, asks}
+use Rattle.lines.specs.Plans.{lastOneMore, grown, afterLines, meaning}
+use Rattle.lines.specs.Records.{oneField, twoFields, threeFields, recordOf}
+use Rattle.lines.specs.Words.{plan, list, outer, hole, at}
+use Rattle.asked.specs.Queries.{pointOf, wordQuery, queryOf, asks}
 use Rattle.answers.specs.Replies.{replies}
 use Rattle.answers.specs.Answers.{planText, afterPlan, answered}
-use Rattle.answers.specs.Words.{gridWord, halfWord, inside, outside, boundary, refused}
+use Rattle.asked.specs.Words.{gridWord, halfWord}
+use Rattle.answers.specs.Words.{inside, outside, boundary, refused}
 use Rattle.answers.proofs.Outcomes.{long-input}
 
 -- lines, each ended by byte 10

@@ -10,11 +10,11 @@ use Rattle.fields.specs.Pieces.{split}
 use Rattle.fields.specs.Written.{overwritten}
 use Rattle.rules.specs.declared.Verdict.the-variants.{Accepted}
 use Rattle.rules.specs.Plans.{Plan, cornerCount, planVerdict}
-use Rattle.text.specs.Plans.{Meaning, Start, Gives, Broken, meaning}
+use Rattle.lines.specs.Plans.{Meaning, Start, Gives, Broken, meaning}
 use Rattle.answers.specs.declared.Outcome.{Outcome}
 use Rattle.answers.specs.declared.Outcome.the-variants.{Written, OutputTooShort}
 use Rattle.answers.specs.declared.parts.Place.{Place}
-use Rattle.answers.specs.Queries.{asks}
+use Rattle.asked.specs.Queries.{asks}
 use Rattle.answers.specs.Replies.{refusalLine, replies}
 use Rattle.answers.specs.Words.{lineEnd}
 

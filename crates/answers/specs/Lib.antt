@@ -1,4 +1,3 @@
 pub mod Words
-pub mod Queries
 pub mod Replies
 pub mod Answers

@@ -16,11 +16,11 @@ use Rattle.rules.specs.declared.State.{State}
 use Rattle.rules.specs.Plans.{Plan, planInRange, planReply, planHalfReply}
 use Rattle.rules.specs.Tables.{planOf}
 use Rattle.gather.specs.Regions.{LookSound}
-use Rattle.answers.specs.declared.queries.Query.{Query}
-use Rattle.answers.specs.declared.queries.Query.the-variants.{OnGrid, Doubled}
-use Rattle.answers.specs.declared.queries.Line.{Line}
-use Rattle.answers.specs.declared.queries.Line.the-variants.{Asks, Malformed}
-use Rattle.answers.specs.Queries.{queryOf}
+use Rattle.asked.specs.declared.Query.{Query}
+use Rattle.asked.specs.declared.Query.the-variants.{OnGrid, Doubled}
+use Rattle.asked.specs.declared.Line.{Line}
+use Rattle.asked.specs.declared.Line.the-variants.{Asks, Malformed}
+use Rattle.asked.specs.Queries.{queryOf}
 use Rattle.answers.specs.Words.{inside, outside, boundary, refused, tab, lineEnd}
 
 -- ---- one line of output

@@ -1,14 +1,6 @@
--- The words of what `findspot` reads after the plan and of what it writes (document 01, "Trays to try"), as bytes.
+-- The words of what `findspot` writes (document 01, "Trays to try"), as bytes.
 use mathlib.Core.List.{List, [], _∷_}
 use Prim.Native.Nat.{ℕ}
-
--- `coin`, before a point of the grid
-abbrev pub gridWord : List ℕ
-gridWord = 99 ∷ 111 ∷ 105 ∷ 110 ∷ []
-
--- `half`, before a doubled point
-abbrev pub halfWord : List ℕ
-halfWord = 104 ∷ 97 ∷ 108 ∷ 102 ∷ []
 
 abbrev pub inside : List ℕ
 inside = 105 ∷ 110 ∷ 115 ∷ 105 ∷ 100 ∷ 101 ∷ []

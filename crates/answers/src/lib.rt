@@ -3,12 +3,11 @@ ghost use Prim.Native.Nat.{_≤_};
 ghost use lib.ListN.{length, drop};
 ghost use Rattle.fields.specs.Pieces.{split};
 ghost use Rattle.fields.specs.Written.{Wrote};
-ghost use Rattle.text.specs.Plans.{meaning};
+ghost use Rattle.lines.specs.Plans.{meaning};
 ghost use Rattle.answers.specs.Replies.{replies, handed, Due};
 ghost use Rattle.answers.specs.Answers.{planText, judged, Admitted, Tables, Answered};
 
 mod parts;
-mod queries;
 mod replies;
 
 use parts::first_query;

@@ -2,7 +2,7 @@
 ghost use Prim.Native.Nat.{_≤_};
 ghost use lib.ListN.{length};
 ghost use Rattle.answers.specs.Answers.{FirstQuery};
-use crate::queries::asks;
+use asked::asks;
 use fields::find;
 
 /// Where a line starts, and its number.

@@ -15,7 +15,7 @@ use Rattle.rules.specs.declared.Refusal.the-variants.{TextTooLong}
 use Rattle.rules.specs.declared.Reply.the-variants.{Refused}
 use Rattle.rules.specs.Numbers.{locationNumber, replyNumber}
 use Rattle.rules.specs.Plans.{planReply}
-use Rattle.text.specs.Plans.{Meaning, Start, Gives, Broken, meaning}
+use Rattle.lines.specs.Plans.{Meaning, Start, Gives, Broken, meaning}
 use Rattle.capi.specs.Replies.{replyIn, textReply}
 
 -- 0, 1, 2, −1 or −2

@@ -1,12 +1,10 @@
 -- From the numbers that name a kind or a state to what is answered. Assumes nothing.
 use mathlib.Core.Path.{_≡_, refl, sym, ap, subst, _∙_}
-use mathlib.Core.Bool.{Bool, true, false, cond}
+use mathlib.Core.Bool.{Bool, true, false}
 use Prim.Native.Nat.{ℕ}
-use lib.Dec.{eqb}
 use lib.IntN.{ℤ}
 use mir.Syntax.{w64}
 use mir.Val.{SFits}
-use borrow.Author.Tests.{ne-eqb}
 use Rattle.geom.specs.declared.Point.{Point}
 use Rattle.integers.proofs.Bits.{rd, rd-is}
 use Rattle.rules.specs.declared.Kind.{Kind}
@@ -20,28 +18,17 @@ use Rattle.prepare.specs.declared.Preparing.{Preparing}
 use Rattle.prepare.specs.declared.Preparing as Preparing
 use Rattle.prepared.specs.declared.first.First.{First}
 use Rattle.prepared.specs.declared.first.First as First
-use Rattle.capi.specs.declared.states.NamedKind.{NamedKind}
-use Rattle.capi.specs.declared.states.NamedKind as NamedKind
-use Rattle.capi.specs.declared.states.NamedState.{NamedState}
-use Rattle.capi.specs.declared.states.NamedState.the-variants.{Known, Unknown}
+use Rattle.states.specs.declared.NamedKind.{NamedKind}
+use Rattle.states.specs.declared.NamedKind as NamedKind
+use Rattle.states.specs.declared.NamedState.{NamedState}
+use Rattle.states.specs.declared.NamedState.the-variants.{Known, Unknown}
 use Rattle.capi.specs.declared.exports.FirstAnswer.{FirstAnswer}
 use Rattle.capi.specs.declared.exports.PrepareAnswer.{PrepareAnswer}
 use Rattle.corrections.specs.declared.Corrected.{Corrected}
-use Rattle.capi.specs.declared.states.StateNumbers.{StateNumbers}
+use Rattle.states.specs.declared.StateNumbers.{StateNumbers}
 use Rattle.capi.specs.declared.moves.CorrectionAnswer.{CorrectionAnswer}
-use Rattle.capi.specs.States.{kindNamed, kindNumber, markNumber, stateNamed, stateNumbers}
+use Rattle.states.specs.States.{kindNamed, kindNumber, markNumber, stateNamed, stateNumbers}
 use Rattle.capi.specs.Exports.{Replied, Listed, PrepareSays, CorrectionSays, firstNumbers, prepareNumbers, correctionNumbers}
-
--- ---- 0, 1, or another number
-
-pub by-zero : {A : Type 0} (a b c : A) (n : ℕ) → n ≡ 0 → cond (eqb n 0) a (cond (eqb n 1) b c) ≡ a
-by-zero a b c n e = ap (λ m. cond (eqb m 0) a (cond (eqb m 1) b c)) e
-
-pub by-one : {A : Type 0} (a b c : A) (n : ℕ) → n ≡ 1 → cond (eqb n 0) a (cond (eqb n 1) b c) ≡ b
-by-one a b c n e = ap (λ m. cond (eqb m 0) a (cond (eqb m 1) b c)) e
-
-pub by-other : {A : Type 0} (a b c : A) (n : ℕ) → (n ≡ 0 → ⊥) → (n ≡ 1 → ⊥) → cond (eqb n 0) a (cond (eqb n 1) b c) ≡ c
-by-other a b c n not-zero not-one = ap (λ t. cond t a (cond (eqb n 1) b c)) (ne-eqb n 0 not-zero) ∙ ap (λ t. cond t b c) (ne-eqb n 1 not-one)
 
 -- ---- look-ups
 

@@ -15,12 +15,13 @@ use Rattle.rules.specs.declared.Refusal.the-variants.{TextTooLong, BadLine}
 use Rattle.rules.specs.declared.Reply.{Reply}
 use Rattle.rules.specs.declared.Reply.the-variants as Reply
 use Rattle.rules.specs.Plans.{Plan, planVerdict, planReply, answer}
-use Rattle.text.specs.declared.Size.{Size}
+use Rattle.lines.specs.declared.Size.{Size}
 use Rattle.text.specs.declared.Reading.the-variants.{Read, Refused}
-use Rattle.text.specs.Plans.{Meaning, Start, Gives, Broken, meaning, sizeOf}
-use Rattle.text.specs.Readings.{withRoom, readingOf, reading, planIn, startingWith}
+use Rattle.lines.specs.Plans.{Meaning, Start, Gives, Broken, meaning, sizeOf}
+use Rattle.lines.specs.Stored.{planIn, startingWith}
+use Rattle.text.specs.Readings.{withRoom, readingOf, reading}
 use Rattle.text.proofs.Answers.{different, Given}
-use Rattle.text.proofs.Largest.{Largest, largest, accepted}
+use Rattle.lines.proofs.Largest.{Largest, largest, accepted}
 use Rattle.capi.specs.Replies.{replyIn, textReply}
 
 -- with room for any text's plan no table is too short

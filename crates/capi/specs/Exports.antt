@@ -19,15 +19,15 @@ use Rattle.prepared.specs.Firsts.{firstNumber, firstFound, firstPlace}
 use Rattle.model.specs.declared.Answer.{Answer}
 use Rattle.model.specs.declared.Answer as Answer
 use Rattle.corrections.specs.declared.Corrected.{Corrected}
-use Rattle.capi.specs.declared.states.StateNumbers.{StateNumbers}
-use Rattle.capi.specs.declared.states.NamedKind.{NamedKind}
-use Rattle.capi.specs.declared.states.NamedKind as NamedKind
-use Rattle.capi.specs.declared.states.NamedState.{NamedState}
-use Rattle.capi.specs.declared.states.NamedState.the-variants.{Known, Unknown}
+use Rattle.states.specs.declared.StateNumbers.{StateNumbers}
+use Rattle.states.specs.declared.NamedKind.{NamedKind}
+use Rattle.states.specs.declared.NamedKind as NamedKind
+use Rattle.states.specs.declared.NamedState.{NamedState}
+use Rattle.states.specs.declared.NamedState.the-variants.{Known, Unknown}
 use Rattle.capi.specs.declared.exports.PrepareAnswer.{PrepareAnswer}
 use Rattle.capi.specs.declared.exports.FirstAnswer.{FirstAnswer}
 use Rattle.capi.specs.declared.moves.CorrectionAnswer.{CorrectionAnswer}
-use Rattle.capi.specs.States.{stateNumbers}
+use Rattle.states.specs.States.{stateNumbers}
 
 -- a look-up's number, by what is promised of its reply; 15 where the numbers name no state
 abbrev pub Replied : NamedState → (State → Reply → Type 0) → ℤ → Type 0

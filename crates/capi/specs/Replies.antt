@@ -10,7 +10,7 @@ use Rattle.rules.specs.declared.Refusal.the-variants.{TextTooLong, BadLine}
 use Rattle.rules.specs.declared.Reply.{Reply}
 use Rattle.rules.specs.declared.Reply.the-variants.{At, Refused}
 use Rattle.rules.specs.Plans.{planReply}
-use Rattle.text.specs.Plans.{Meaning, Start, Gives, Broken, meaning}
+use Rattle.lines.specs.Plans.{Meaning, Start, Gives, Broken, meaning}
 
 -- the reply of items 3 and 4 under item 6's range rule, or 2 with its line
 abbrev pub replyIn : Meaning → Point → Reply

@@ -11,14 +11,8 @@ ghost use Rattle.query.specs.Calls.{LookedUp};
 ghost use Rattle.prepare.specs.Tables.{Tables, Prepared};
 ghost use Rattle.prepared.specs.Calls.{Looked};
 ghost use Rattle.prepared.specs.Firsts.{FirstSays};
-ghost use Rattle.capi.specs.States.{kindNamed, stateNamed};
+ghost use Rattle.states.specs.States.{kindNamed, stateNamed};
 ghost use Rattle.capi.specs.Exports.{noState, firstNumbers, prepareNumbers, Replied, Listed, PrepareSays};
-use crate::states::NamedKind;
-use crate::states::NamedState;
-use crate::states::StateNumbers;
-use crate::states::kind_of;
-use crate::states::numbers_of;
-use crate::states::state_of;
 use geom::Point;
 use prepare::Preparing;
 use prepare::prepare;
@@ -33,6 +27,12 @@ use rules::Reply;
 use rules::refusal_detail;
 use rules::refusal_number;
 use rules::reply_number;
+use states::NamedKind;
+use states::NamedState;
+use states::StateNumbers;
+use states::kind_of;
+use states::numbers_of;
+use states::state_of;
 
 /// What preparing answers: the refusal number or 0, the table that refusal 11 names or 0, the number of nodes, and the state (zeros
 /// where it is refused).

@@ -5,7 +5,6 @@ ghost use Rattle.capi.specs.Replies.{textReply, Roomy};
 
 pub mod exports;
 pub mod moves;
-pub mod states;
 
 use geom::Point;
 use query::locate;

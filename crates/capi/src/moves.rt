@@ -5,12 +5,8 @@ ghost use Prim.Native.Nat.{ℕ};
 ghost use Rattle.model.specs.declared.Call.the-variants.{Move, Undo};
 ghost use Rattle.model.specs.Prepared.{preparedOf};
 ghost use Rattle.model.specs.Steps.{Step};
-ghost use Rattle.capi.specs.States.{stateNamed};
+ghost use Rattle.states.specs.States.{stateNamed};
 ghost use Rattle.capi.specs.Exports.{correctionRefusal, correctionNumbers, CorrectionSays, Written};
-use crate::states::NamedState;
-use crate::states::StateNumbers;
-use crate::states::numbers_of;
-use crate::states::state_of;
 use corrections::Corrected;
 use corrections::move_corner;
 use corrections::undo;
@@ -18,6 +14,10 @@ use geom::Point;
 use model::Answer;
 use rules::Refusal;
 use rules::refusal_number;
+use states::NamedState;
+use states::StateNumbers;
+use states::numbers_of;
+use states::state_of;
 
 /// What a correction answers: 0 where it is accepted, or the refusal number; and the state that goes with the tables from now on, which
 /// a refusal leaves as it was.

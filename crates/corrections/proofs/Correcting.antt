@@ -22,8 +22,9 @@ use Rattle.model.specs.Steps.{moveEarly, undoEarly, early, atDepth, latest, Ste
 use Rattle.model.proofs.Ways.{unsound-step}
 use Rattle.model.proofs.Tables.{Refitted, recorded, move-done, takenBack, undo-done}
 use Rattle.corrections.specs.declared.Corrected.{Corrected}
-use Rattle.corrections.specs.Ways.{CorrectionSound}
-use Rattle.corrections.specs.Places.{MadeAt, Unmade, PutBack, TakenBack}
+use Rattle.placing.specs.Ways.{CorrectionSound}
+use Rattle.placing.specs.Places.{MadeAt, Unmade}
+use Rattle.corrections.specs.TakingBack.{PutBack, TakenBack}
 use Rattle.corrections.specs.Records.{LatestIs}
 
 module _ (state : State) (corners : List ℤ) (rings polygons : List ℕ) (boxes : List (List ℤ)) (parts : List (List ℕ)) (edges : List ℕ) (undo : List (List ℤ)) where

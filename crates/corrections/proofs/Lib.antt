@@ -1,3 +1,1 @@
-pub mod Finding
-pub mod Placing
 pub mod Correcting

@@ -1,3 +1,2 @@
-pub mod Ways
-pub mod Places
+pub mod TakingBack
 pub mod Records

@@ -6,19 +6,17 @@ ghost use Rattle.model.specs.declared.Answer.the-variants.{Refused};
 ghost use Rattle.model.specs.declared.Call.the-variants.{Move, Undo};
 ghost use Rattle.model.specs.Prepared.{preparedOf};
 ghost use Rattle.model.specs.Steps.{atDepth, Step};
-ghost use Rattle.corrections.specs.Places.{TakenBack};
+ghost use Rattle.corrections.specs.TakingBack.{TakenBack};
 
-mod places;
 mod records;
-mod ways;
 
 use geom::Point;
 use model::Answer;
 use model::Early;
 use model::move_early;
 use model::undo_early;
-use places::Correction;
-use places::correct;
+use placing::Correction;
+use placing::correct;
 use records::Latest;
 use records::latest_record;
 use records::put_record;

@@ -21,7 +21,7 @@ use Rattle.rules.specs.declared.Verdict.the-variants.{Accepted}
 use Rattle.rules.specs.Plans.{cornersOf, planReply}
 use Rattle.rules.specs.Tables.{planOf}
 use Rattle.gather.specs.Regions.{LookSound, Enough}
-use Rattle.query.proofs.Steps.{at-refused}
+use Rattle.outlines.proofs.Steps.{at-refused}
 use Rattle.prepared.specs.declared.first.First.{First}
 use Rattle.prepared.specs.declared.first.First.the-variants.{At, AllOutside, Refused}
 use Rattle.prepared.specs.Calls.{Looked}

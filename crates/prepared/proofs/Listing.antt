@@ -33,7 +33,7 @@ use Rattle.prepared.specs.declared.first.First.the-variants.{At, AllOuts
 use Rattle.prepared.specs.declared.first.First as First
 use Rattle.gather.specs.Regions.{Enough, LookSound}
 use Rattle.query.proofs.LookUps.{far}
-use Rattle.query.proofs.Steps.{at-refused}
+use Rattle.outlines.proofs.Steps.{at-refused}
 use Rattle.prepared.specs.Calls.{Looked}
 use Rattle.prepared.specs.Firsts.{pointsVerdict, firstFrom, firstOf, FirstSays}
 use Rattle.prepared.proofs.Lookings.{clash}

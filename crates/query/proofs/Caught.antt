@@ -26,7 +26,7 @@ use Rattle.rules.specs.declared.Verdict.the-variants.{Accepted}
 use Rattle.rules.specs.Tables.{endsFrom, planOf, PlanSound}
 use Rattle.rules.proofs.Tables.{listState, list-held, list-sound}
 use Rattle.query.specs.Calls.{LookedUp}
-use Rattle.query.proofs.Steps.{at-refused}
+use Rattle.outlines.proofs.Steps.{at-refused}
 
 abbrev pub Engine : Type 0
 Engine = Kind → List ℤ → List ℕ → List ℕ → Point → Reply

@@ -22,12 +22,12 @@ use Rattle.rules.specs.Replies.{crosses, doubled, doubledEdges, halfReply, list
 use Rattle.rules.specs.Tables.{endsFrom, lengthsFrom, polygonsIn, planOf, PlanSound}
 use Rattle.rules.proofs.Corners.{near-first}
 use Rattle.rules.proofs.Verdicts.{even}
-use Rattle.query.specs.declared.rows.Form.{Form}
-use Rattle.query.specs.declared.rows.Form.the-variants.{Lengths, Ends}
+use Rattle.outlines.specs.declared.rows.Form.{Form}
+use Rattle.outlines.specs.declared.rows.Form.the-variants.{Lengths, Ends}
 use Rattle.query.specs.Calls.{planBy, Fitting}
 use Rattle.rings.specs.Half.{nearDoubled}
-use Rattle.query.specs.Shapes.{halfNear}
-use Rattle.query.specs.Rows.{lengthsBy, Within, partsFrom}
+use Rattle.outlines.specs.Shapes.{halfNear}
+use Rattle.outlines.specs.Rows.{lengthsBy, Within, partsFrom}
 
 -- ---- sums that come out let every entry fit
 pub fits-lengths : (limit start : ℕ) (table : List ℕ) → start + total table ≡ limit → Within Lengths limit start table

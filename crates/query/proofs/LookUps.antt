@@ -22,7 +22,7 @@ use Rattle.rules.specs.Replies.{halfReply}
 use Rattle.rules.specs.Tables.{polygonsIn, PlanSound}
 use Rattle.integers.proofs.Tests.{and-none, or-false}
 use Rattle.query.specs.Calls.{tooShort, LookedUp}
-use Rattle.query.specs.Shapes.{Placed}
+use Rattle.outlines.specs.Shapes.{Placed}
 use Rattle.query.proofs.Fits.{located, half-located}
 
 clash : {b : Bool} → b ≡ true → b ≡ false → ⊥

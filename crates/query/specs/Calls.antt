@@ -17,9 +17,9 @@ use Rattle.rules.specs.declared.Reply.the-variants.{At, Refused}
 use Rattle.rules.specs.declared.State.{State}
 use Rattle.rules.specs.Plans.{Plan, isList, kindReply}
 use Rattle.rules.specs.Tables.{polygonsIn, PlanSound}
-use Rattle.query.specs.declared.rows.Form.{Form}
-use Rattle.query.specs.Rows.{lengthsBy, Within}
-use Rattle.query.specs.Shapes.{Placed}
+use Rattle.outlines.specs.declared.rows.Form.{Form}
+use Rattle.outlines.specs.Rows.{lengthsBy, Within}
+use Rattle.outlines.specs.Shapes.{Placed}
 
 -- the plan that tables of either form hold
 abbrev pub planBy : Form → Kind → List ℤ → List ℕ → List ℕ → Plan

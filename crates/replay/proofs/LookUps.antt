@@ -12,7 +12,7 @@ use Rattle.rules.specs.declared.Reply.{Reply}
 use Rattle.rules.specs.declared.Reply.the-variants.{At, Refused}
 use Rattle.rules.specs.Plans.{planReply, planHalfReply}
 use Rattle.query.proofs.LookUps.{far, half-far}
-use Rattle.query.proofs.Steps.{at-refused}
+use Rattle.outlines.proofs.Steps.{at-refused}
 use Rattle.prepared.specs.Calls.{Looked}
 use Rattle.model.specs.declared.Call.the-variants.{Locate, LocateDoubled}
 use Rattle.model.specs.Numbers.{answerOf}

@@ -299,34 +299,14 @@ fn same_end(answers: &[i64], again: &[i64], corners: &[i64], left: &[i64]) -> us
     0
 }
 
-// 1 where the tables are those of the plan just prepared.
+// 1 where corners and boxes are as they were first prepared.
 fn restored(
-    kind: Kind,
-    coordinates: &[i64],
-    lengths: &[usize],
-    counts: &[usize],
-    left: &[i64],
-    left_boxes: &[[i64; 4]],
+    corners: &[i64],
+    first_corners: &[i64],
+    boxes: &[[i64; 4]],
+    first_boxes: &[[i64; 4]],
 ) -> usize {
-    let mut corners: [i64; 2400] = [0; 2400];
-    let mut rings: [usize; 300] = [0; 300];
-    let mut polygons: [usize; 300] = [0; 300];
-    let mut boxes: [[i64; 4]; 511] = [[0; 4]; 511];
-    let mut parts: [[usize; 3]; 511] = [[0; 3]; 511];
-    let mut edges: [usize; 1200] = [0; 1200];
-    prepare(
-        kind,
-        coordinates,
-        lengths,
-        counts,
-        &mut corners,
-        &mut rings,
-        &mut polygons,
-        &mut boxes,
-        &mut parts,
-        &mut edges,
-    );
-    if same_numbers(&corners, left, 2400) & same_boxes(&boxes, left_boxes, 511) {
+    if same_numbers(corners, first_corners, 2400) & same_boxes(boxes, first_boxes, 511) {
         return 1;
     }
     0
@@ -346,6 +326,8 @@ fn run_from(
     parts: &[[usize; 3]],
     edges: &[usize],
     calls: &[[i64; 4]],
+    first_corners: &[i64],
+    first_boxes: &[[i64; 4]],
 ) -> Ran {
     let mut undo: [[i64; 3]; 40] = [[0; 3]; 40];
     let mut answers: [i64; 600] = [0; 600];
@@ -378,7 +360,7 @@ fn run_from(
     Ran {
         tally: tally,
         alike: alike,
-        restored: restored(kind, coordinates, lengths, counts, corners, boxes),
+        restored: restored(corners, first_corners, boxes, first_boxes),
     }
 }
 
@@ -408,6 +390,8 @@ pub(crate) fn run(kind: Kind, seed: usize) -> Ran {
         &mut parts,
         &mut edges,
     );
+    let first_corners = corners;
+    let first_boxes = boxes;
     run_from(
         preparing,
         kind,
@@ -421,5 +405,7 @@ pub(crate) fn run(kind: Kind, seed: usize) -> Ran {
         &parts,
         &edges,
         &calls,
+        &first_corners,
+        &first_boxes,
     )
 }

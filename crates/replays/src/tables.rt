@@ -18,11 +18,6 @@ pub(crate) fn same_numbers(a: &[i64], b: &[i64], n: usize) -> bool {
     true
 }
 
-// Whether two boxes are the same.
-fn same_box(a: [i64; 4], b: [i64; 4]) -> bool {
-    (a[0] == b[0]) & (a[1] == b[1]) & (a[2] == b[2]) & (a[3] == b[3])
-}
-
 /// Whether two tables of boxes have the same first n rows.
 pub(crate) fn same_boxes(a: &[[i64; 4]], b: &[[i64; 4]], n: usize) -> bool {
     let mut i: usize = 0;
@@ -33,7 +28,7 @@ pub(crate) fn same_boxes(a: &[[i64; 4]], b: &[[i64; 4]], n: usize) -> bool {
         if b.len() <= i {
             return false;
         }
-        if !same_box(a[i], b[i]) {
+        if !same_numbers(&a[i], &b[i], 4) {
             return false;
         }
         i += 1;

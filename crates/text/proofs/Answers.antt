@@ -12,14 +12,14 @@ use Rattle.rules.specs.declared.Refusal.the-variants.{TextTooLong, BadLine, Tab
 use Rattle.rules.specs.declared.Table.the-variants.{Corners, Rings, Polygons}
 use Rattle.rules.specs.Lists.{total}
 use Rattle.rules.specs.Plans.{Plan}
-use Rattle.text.specs.declared.Size.{Size}
+use Rattle.lines.specs.declared.Size.{Size}
 use Rattle.text.specs.declared.Reading.the-variants.{Read, Refused}
-use Rattle.text.specs.declared.stages.Stage.{Stage}
-use Rattle.text.specs.declared.stages.Stage.the-variants as Stage
-use Rattle.text.specs.Plans.{Meaning, Start, Gives, Broken, meaning, sizeOf}
+use Rattle.lines.specs.declared.stages.Stage.{Stage}
+use Rattle.lines.specs.declared.stages.Stage.the-variants as Stage
+use Rattle.lines.specs.Plans.{Meaning, Start, Gives, Broken, meaning, sizeOf}
 use Rattle.text.specs.Readings.{withRoom, readingOf, reading}
-use Rattle.text.specs.Steps.{stageOf, Ready}
-use Rattle.text.proofs.Sensible.{Fine, meaning-fine}
+use Rattle.lines.specs.Steps.{stageOf, Ready}
+use Rattle.lines.proofs.Sensible.{Fine, meaning-fine}
 
 module _ (text : List ℕ) (corners lengths counts : ℕ) where
   pub too-long : 65536 < length text → Refused TextTooLong ≡ reading text corners lengths counts

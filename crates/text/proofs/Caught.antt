@@ -13,10 +13,10 @@ use Rattle.rules.specs.declared.Refusal.the-variants.{TextTooLong, BadLine, Tab
 use Rattle.rules.specs.declared.Table.the-variants as Table
 use Rattle.text.specs.declared.Reading.{Reading}
 use Rattle.text.specs.declared.Reading.the-variants.{Read, Refused}
-use Rattle.text.specs.Plans.{lastOneMore, grown, afterLines, meaning}
+use Rattle.lines.specs.Plans.{lastOneMore, grown, afterLines, meaning}
 use Rattle.text.specs.Readings.{readingNumber, readingDetail, reading, written, PlanRead}
-use Rattle.text.specs.Records.{oneField, twoFields, threeFields, recordOf}
-use Rattle.text.specs.Words.{plan, tree, outer, hole, node, at}
+use Rattle.lines.specs.Records.{oneField, twoFields, threeFields, recordOf}
+use Rattle.lines.specs.Words.{plan, tree, outer, hole, node, at}
 use Rattle.text.proofs.Answers.{too-long}
 use Rattle.text.proofs.Worked.{text, _⇥_}
 

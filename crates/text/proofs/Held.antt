@@ -7,12 +7,12 @@ use lib.IntN.{ℤ}
 use lib.ListN.{length, take, drop}
 use lib.Seq.{take-at}
 use Rattle.rules.specs.Plans.{Plan}
-use Rattle.text.specs.declared.Size.{Size}
-use Rattle.text.specs.Plans.{meaning, sizeOf}
-use Rattle.text.specs.Readings.{planIn, startingWith}
-use Rattle.text.specs.Steps.{Ready}
+use Rattle.lines.specs.declared.Size.{Size}
+use Rattle.lines.specs.Plans.{meaning, sizeOf}
+use Rattle.lines.specs.Stored.{planIn, startingWith}
+use Rattle.lines.specs.Steps.{Ready}
 use Rattle.text.proofs.Answers.{Given}
-use Rattle.text.proofs.Largest.{largest}
+use Rattle.lines.proofs.Largest.{largest}
 
 module _ (text : List ℕ) (corners₀ lengths₀ counts₀ : ℕ) (size : Size) (g : Given text corners₀ lengths₀ counts₀ size) where
   -- the plan's lists fit

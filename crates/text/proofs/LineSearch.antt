@@ -11,7 +11,7 @@ use borrow.Author.Tests.{lt-ltb, ltb-true, ltb-false}
 use Rattle.fields.specs.Pieces.{upTo, split}
 use Rattle.fields.proofs.Pieces.{piece-cut, piece-last, search-within}
 use Rattle.text.specs.Lines.{lineOf}
-use Rattle.text.proofs.FieldSearch.{rest-is}
+use Rattle.lines.proofs.FieldSearch.{rest-is}
 
 -- a loop's test of two parts, passed and not passed
 pub both-below : (a b c d : ℕ) → (ltb a b && ltb c d) ≡ true → (a < b) × (c < d)

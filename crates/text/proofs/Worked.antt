@@ -8,9 +8,9 @@ use Rattle.fields.specs.Decimals.{digitsWithin, digits, decimal, worth, valueOf
 use Rattle.fields.specs.Pieces.{split}
 use Rattle.rules.specs.declared.Kind.the-variants.{Polygons, Tree}
 use Rattle.text.specs.Lines.{lineOf}
-use Rattle.text.specs.Plans.{Gives, Broken, emptyPlan, lastOneMore, grown, afterLines, meaning}
-use Rattle.text.specs.Records.{oneField, twoFields, threeFields, recordOf}
-use Rattle.text.specs.Words.{plan, list, tree, outer, hole, node, at}
+use Rattle.lines.specs.Plans.{Gives, Broken, emptyPlan, lastOneMore, grown, afterLines, meaning}
+use Rattle.lines.specs.Records.{oneField, twoFields, threeFields, recordOf}
+use Rattle.lines.specs.Words.{plan, list, tree, outer, hole, node, at}
 
 -- lines, each ended by byte 10
 abbrev pub text : List (List ℕ) → List ℕ

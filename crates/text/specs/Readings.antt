@@ -1,20 +1,19 @@
 -- What reading a text answers, and what the lent tables then hold (document 01, item 10, refusals 1, 2 and 11).
 use mathlib.Core.Path.{_≡_}
 use mathlib.Core.Bool.{cond}
-use mathlib.Core.List.{List, _++_}
+use mathlib.Core.List.{List}
 use Prim.Native.Nat.{ℕ, _*_}
 use lib.Dec.{ltb}
 use lib.IntN.{ℤ}
-use lib.ListN.{length, drop}
-use Rattle.rules.specs.declared.Kind.the-variants as Kind
+use lib.ListN.{length}
 use Rattle.rules.specs.declared.Refusal.the-variants.{TextTooLong, BadLine, TableTooShort}
 use Rattle.rules.specs.declared.Table.the-variants.{Corners, Rings, Polygons}
 use Rattle.rules.specs.Numbers.{refusalNumber, refusalDetail}
-use Rattle.rules.specs.Plans.{Plan}
-use Rattle.text.specs.declared.Size.{Size}
+use Rattle.lines.specs.declared.Size.{Size}
 use Rattle.text.specs.declared.Reading.{Reading}
 use Rattle.text.specs.declared.Reading.the-variants.{Read, Refused}
-use Rattle.text.specs.Plans.{Meaning, Start, Gives, Broken, meaning, sizeOf, emptyPlan}
+use Rattle.lines.specs.Plans.{Meaning, Start, Gives, Broken, meaning, sizeOf}
+use Rattle.lines.specs.Stored.{planIn, startingWith}
 
 -- 0 where a plan was read, or the refusal's number
 abbrev pub readingNumber : Reading → ℕ
@@ -42,16 +41,6 @@ readingOf (Broken line) corners rings polygons = Refused (BadLine line)
 -- 1, then 2, then 11, for tables of these lengths
 unfoldable pub reading : List ℕ → ℕ → ℕ → ℕ → Reading
 reading text corners rings polygons = cond (ltb 65536 (length text)) (Refused TextTooLong) (readingOf (meaning text) corners rings polygons)
-
--- the plan of a text that gives one
-abbrev pub planIn : Meaning → Plan
-planIn Start = emptyPlan Kind.Polygons
-planIn (Gives plan) = plan
-planIn (Broken line) = emptyPlan Kind.Polygons
-
--- a table with a list at its start and otherwise as it was
-abbrev pub startingWith : {A : Type 0} → List A → List A → List A
-startingWith xs table = xs ++ drop (length xs) table
 
 -- a table after reading
 abbrev pub written : {A : Type 0} → Reading → List A → List A → List A

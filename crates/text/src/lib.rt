@@ -2,29 +2,16 @@
 ghost use mathlib.Core.Path.{_≡_};
 ghost use Rattle.text.specs.Lines.{lineOf};
 ghost use Rattle.text.specs.Readings.{withRoom, reading, PlanRead};
-
-mod records;
-mod stages;
-mod tables;
-
 use fields::find;
-use rules::Kind;
+use lines::Size;
+use lines::stages::Stage;
+use lines::stages::judge;
+use lines::tables::write_plan;
 use rules::Refusal;
 use rules::Table;
-use stages::Stage;
-use stages::judge;
-use tables::write_plan;
 
 /// The most bytes that a text may have.
 pub const MAX_TEXT: usize = 65536;
-
-/// A plan's kind and how many corners, rings and polygons it has. A tree has no polygons.
-pub struct Size {
-    pub kind: Kind,
-    pub corners: usize,
-    pub rings: usize,
-    pub polygons: usize,
-}
 
 /// What reading a text answers.
 pub enum Reading {

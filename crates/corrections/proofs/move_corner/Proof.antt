@@ -11,7 +11,7 @@ use Rattle.model.specs.Prepared.{Prepared, preparedOf}
 use Rattle.model.specs.Steps.{moveEarly}
 use Rattle.model.proofs.Ways.{OpenMove, open-move, early-move}
 use Rattle.model.proofs.Tables.{move-settled}
-use Rattle.corrections.specs.Places.{MadeAt}
+use Rattle.placing.specs.Places.{MadeAt}
 use Rattle.corrections.proofs.Correcting.{moved-step, unmade-step}
 use borrow.Author.Needs.{needs}
 use Rattle.corrections.proofs.move_corner.Statement.{statement}

@@ -1,7 +1,7 @@
 -- `capi::exports::findspot_first_not_outside` meets its contract.
 use mathlib.Core.Path.{sym, _∙_}
 use Rattle.prepared.specs.Firsts.{FirstSays}
-use Rattle.capi.specs.States.{stateNamed}
+use Rattle.states.specs.States.{stateNamed}
 use Rattle.capi.proofs.Namings.{listed-unknown, listed-known}
 use borrow.Author.Needs.{needs}
 use Rattle.capi.proofs.exports.findspot_first_not_outside.Statement.{statement}

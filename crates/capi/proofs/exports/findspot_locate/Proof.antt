@@ -6,7 +6,7 @@ use Rattle.geom.specs.Range.{inRange}
 use Rattle.rules.specs.Plans.{planReply}
 use Rattle.rules.specs.Tables.{planOf}
 use Rattle.prepared.specs.Calls.{Looked}
-use Rattle.capi.specs.States.{stateNamed}
+use Rattle.states.specs.States.{stateNamed}
 use Rattle.capi.proofs.Namings.{replied-unknown, replied-known}
 use borrow.Author.Needs.{needs}
 use Rattle.capi.proofs.exports.findspot_locate.Statement.{statement}

@@ -1,6 +1,6 @@
 -- `capi::exports::findspot_prepare` meets its contract.
 use mathlib.Core.Path.{refl, sym, _∙_}
-use Rattle.capi.specs.States.{kindNamed}
+use Rattle.states.specs.States.{kindNamed}
 use Rattle.capi.proofs.Namings.{prepare-unknown, prepare-known}
 use borrow.Author.Needs.{needs}
 use Rattle.capi.proofs.exports.findspot_prepare.Statement.{statement}

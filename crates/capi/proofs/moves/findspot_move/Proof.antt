@@ -6,7 +6,7 @@ use Rattle.geom.specs.declared.Point.{Point}
 use Rattle.model.specs.declared.Call.the-variants.{Move}
 use Rattle.model.specs.Prepared.{preparedOf}
 use Rattle.model.specs.Steps.{Step}
-use Rattle.capi.specs.States.{stateNamed}
+use Rattle.states.specs.States.{stateNamed}
 use Rattle.capi.proofs.Namings.{correction-unknown, correction-known, place-read}
 use borrow.Author.Needs.{needs}
 use Rattle.capi.proofs.moves.findspot_move.Statement.{statement}

@@ -1,6 +1,6 @@
 -- `capi::moves::findspot_undo` meets its contract.
 use mathlib.Core.Path.{refl, sym, _∙_}
-use Rattle.capi.specs.States.{stateNamed}
+use Rattle.states.specs.States.{stateNamed}
 use Rattle.capi.proofs.Namings.{correction-unknown, correction-known}
 use borrow.Author.Needs.{needs}
 use Rattle.capi.proofs.moves.findspot_undo.Statement.{statement}

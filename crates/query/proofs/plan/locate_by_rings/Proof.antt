@@ -10,7 +10,7 @@ use Rattle.geom.specs.Range.{inRange}
 use Rattle.rules.specs.declared.Reply.the-variants.{At}
 use Rattle.rules.specs.Plans.{planReply}
 use Rattle.rules.specs.Tables.{planOf, polygonsIn}
-use Rattle.query.specs.declared.rows.Form.the-variants.{Ends}
+use Rattle.outlines.specs.declared.rows.Form.the-variants.{Ends}
 use Rattle.query.specs.Calls.{PlanShown}
 use Rattle.query.proofs.Fits.{sound-fits, located}
 use Rattle.query.proofs.LookUps.{far, marked, beyond, unsound, done, short-is, never-short, Long, long}

@@ -7,7 +7,7 @@ use Rattle.geom.specs.Range.{inDoubledRange}
 use Rattle.rules.specs.declared.Reply.the-variants.{At}
 use Rattle.rules.specs.declared.Verdict.the-variants.{Accepted}
 use Rattle.rules.specs.Plans.{planVerdict, planInRange, planHalfReply, answer}
-use Rattle.query.specs.declared.rows.Form.the-variants.{Lengths}
+use Rattle.outlines.specs.declared.rows.Form.the-variants.{Lengths}
 use Rattle.query.proofs.Fits.{accepted-fits, half-located, half-is}
 use Rattle.query.proofs.LookUps.{half-far}
 use Rattle.query.proofs.plan.locate_doubled.Statement.{statement}

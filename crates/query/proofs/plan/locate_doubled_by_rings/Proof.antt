@@ -10,7 +10,7 @@ use Rattle.geom.specs.Range.{inDoubledRange}
 use Rattle.rules.specs.declared.Reply.the-variants.{At}
 use Rattle.rules.specs.Plans.{planHalfReply}
 use Rattle.rules.specs.Tables.{planOf, polygonsIn}
-use Rattle.query.specs.declared.rows.Form.the-variants.{Ends}
+use Rattle.outlines.specs.declared.rows.Form.the-variants.{Ends}
 use Rattle.query.proofs.Fits.{sound-fits, half-located, half-is}
 use Rattle.query.proofs.LookUps.{half-far, marked, beyond, unsound, done, short-is, never-short, Long, long}
 use Rattle.query.proofs.plan.locate_doubled_by_rings.Statement.{statement}

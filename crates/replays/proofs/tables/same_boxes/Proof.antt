@@ -22,20 +22,20 @@ returns c = search needs
 returns-2 : tie.Need-returns-2 Inv-loop μ-loop
 returns-2 c = search needs
 
-mul-same-box : tie.Need-mul-same-box Inv-loop μ-loop
-mul-same-box c = search needs
+mul-same-numbers : tie.Need-mul-same-numbers Inv-loop μ-loop
+mul-same-numbers c = search needs
 
-shared-slice-copy-out-same-box : tie.Need-shared-slice-copy-out-same-box Inv-loop μ-loop
-shared-slice-copy-out-same-box c = search needs
+shared-slice-element-same-numbers : tie.Need-shared-slice-element-same-numbers Inv-loop μ-loop
+shared-slice-element-same-numbers c = search needs
 
-mul-same-box-2 : tie.Need-mul-same-box-2 Inv-loop μ-loop
-mul-same-box-2 c = search needs
+mul-same-numbers-2 : tie.Need-mul-same-numbers-2 Inv-loop μ-loop
+mul-same-numbers-2 c = search needs
 
-shared-slice-copy-out-same-box-2 : tie.Need-shared-slice-copy-out-same-box-2 Inv-loop μ-loop
-shared-slice-copy-out-same-box-2 c = search needs
+shared-slice-element-same-numbers-2 : tie.Need-shared-slice-element-same-numbers-2 Inv-loop μ-loop
+shared-slice-element-same-numbers-2 c = search needs
 
-same-box-requires : tie.Need-same-box-requires Inv-loop μ-loop
-same-box-requires c κs = search needs
+same-numbers-requires : tie.Need-same-numbers-requires Inv-loop μ-loop
+same-numbers-requires c κs = search needs
 
 returns-3 : tie.Need-returns-3 Inv-loop μ-loop
 returns-3 c = search needs
@@ -61,11 +61,11 @@ same-boxes-spec =
     loop-holds
     returns
     returns-2
-    mul-same-box
-    shared-slice-copy-out-same-box
-    mul-same-box-2
-    shared-slice-copy-out-same-box-2
-    same-box-requires
+    mul-same-numbers
+    shared-slice-element-same-numbers
+    mul-same-numbers-2
+    shared-slice-element-same-numbers-2
+    same-numbers-requires
     returns-3
     add-i
     loop-less

@@ -1,0 +1,5 @@
+pub mod Words
+pub mod Records
+pub mod Plans
+pub mod Steps
+pub mod Stored

@@ -1,0 +1,5 @@
+pub mod Cuts
+pub mod Alignment
+pub mod HalfSteps
+pub mod Progress
+pub mod Steps
