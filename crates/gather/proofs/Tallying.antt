@@ -199,7 +199,7 @@ module _ (listed : List ℕ) (slots : List ℤ) (used ring k : ℕ) (c : Crossin
             rest = grown-rest;
           }
 
-  pub listed-new : Room (Listed used) (length listed) (length slots) → used < 64 → Counts (Listed used) listed slots ring c (Listed (used + 1)) listed′ slots′
+  pub listed-new : Room (Listed used) (length listed) (length slots) → used < 128 → Counts (Listed used) listed slots ring c (Listed (used + 1)) listed′ slots′
   listed-new R h =
       record {
         room = (omega arith, omega (arith, R .1, L .long), omega (arith, R .2, S .long));

@@ -42,7 +42,7 @@ isListed EachRing = false
 
 -- list and slots are long enough
 abbrev pub Room : Layout → ℕ → ℕ → Type 0
-Room (Listed used) listed slots = (used ≤ 64) × (64 ≤ listed) × (64 ≤ slots)
+Room (Listed used) listed slots = (used ≤ 128) × (128 ≤ listed) × (128 ≤ slots)
 Room EachRing listed slots = 65536 ≤ slots
 
 -- rings by rising number, each slot with what the edges met give for its ring, and no edge of any other ring says anything

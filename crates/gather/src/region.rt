@@ -1,5 +1,5 @@
 // Where a point lies in the region of a prepared plan, by the windings of its rings along a ray (document 01, items 3, 4 and 6;
-// `locate_raw` of src/prepared.rs). At most two walks: the first lists up to 64 rings, and only where it meets more of them does a second
+// `locate_raw` of src/prepared.rs). At most two walks: the first lists up to 128 rings, and only where it meets more of them does a second
 // one give each ring a slot. So the work goes by the edges met, however the rings are nested, and no lent table is written.
 ghost use mathlib.Core.Path.{_≡_};
 ghost use mathlib.Core.Bool.{true, false};

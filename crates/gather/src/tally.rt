@@ -17,7 +17,7 @@ use rings::crossings::wound;
 use rules::Location;
 
 // How many rings a list of rings has room for.
-pub(crate) const LISTED: usize = 64;
+pub(crate) const LISTED: usize = 128;
 
 // The most windings either way that a slot counts: no plan has so many edges.
 const MOST: i64 = 2305843009213693952;

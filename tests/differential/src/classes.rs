@@ -75,7 +75,7 @@ pub struct Tally {
     pub undone: u64,
     pub out_of_range: u64,
     pub above_512_edges: u64,
-    pub above_64_rings: u64,
+    pub above_128_rings: u64,
 }
 
 impl Tally {
@@ -84,7 +84,7 @@ impl Tally {
         self.plans += 1;
         self.out_of_range += u64::from(!plan.in_range());
         self.above_512_edges += u64::from(plan.coordinates.len() / 2 > 512);
-        self.above_64_rings += u64::from(plan.ring_lengths.len() > 64);
+        self.above_128_rings += u64::from(plan.ring_lengths.len() > 128);
     }
 
     /// Counts replies to points of a plan, those in range by their rays.
@@ -123,7 +123,7 @@ impl AddAssign<&Tally> for Tally {
         self.undone += other.undone;
         self.out_of_range += other.out_of_range;
         self.above_512_edges += other.above_512_edges;
-        self.above_64_rings += other.above_64_rings;
+        self.above_128_rings += other.above_128_rings;
     }
 }
 

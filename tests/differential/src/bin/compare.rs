@@ -187,7 +187,7 @@ fn print_counts(tally: &Tally) {
     println!("all moves undone: {}", tally.undone);
     println!("plans out of range: {}", tally.out_of_range);
     println!("plans of more than 512 edges: {}", tally.above_512_edges);
-    println!("plans of more than 64 rings: {}", tally.above_64_rings);
+    println!("plans of more than 128 rings: {}", tally.above_128_rings);
 }
 
 /// Shows a difference, and the smallest session that was found to show one too.
