@@ -220,8 +220,9 @@ fn many_rings(
     )
 }
 
-// By a slot for each ring, where a list has not been enough. It is called at two places so that the compiler keeps it a function of its
-// own: as a part of `region_along` it would have each look-up touch all pages of half a mebibyte before its first step.
+// By a slot for each ring, where a list has not been enough. Two calls with arguments of their own, so that the compiler keeps
+// `many_rings` a function: as a part of `region_along` it would have each look-up touch all pages of half a mebibyte before its first
+// step.
 fn second_walk(
     ray: Ray,
     state: State,

@@ -110,7 +110,7 @@ NodeSays boxes parts n nodes query p (Cut f l) = CutInto boxes parts n nodes que
 abbrev pub afterNode : Cursor → ℕ → ℕ → ℕ → Cursor
 afterNode cursor waiting at to = record { nodes = cursor .nodes; waiting = waiting; met = cursor .met + 1; at = at; to = to }
 
--- so many places of the leaf in hand are behind it
+-- at another place of the leaf in hand
 abbrev pub atPlace : Cursor → ℕ → Cursor
 atPlace cursor at = record { nodes = cursor .nodes; waiting = cursor .waiting; met = cursor .met; at = at; to = cursor .to }
 

@@ -242,7 +242,7 @@ pub fn next_leaf(
     Stop::Leaf(here)
 }
 
-// Where a walk stands when so many places of the leaf in hand are behind it.
+// The walk at another place of the leaf in hand.
 fn at_place(cursor: Cursor, at: usize) -> Cursor
     ensures { λ r. ⌜ r ≡ atPlace cursor at ⌝ }
 {
