@@ -261,8 +261,7 @@ pub extern "C" fn findspot_locate_doubled_by_rings(
 }
 
 /// The first of the listed points x, y, x, y, .. that is not outside, through the boxes. Refused with 4 or 3 where the list is too long or a y
-/// is missing, and with 15 where a look-up is or, before all else, the numbers name no
-/// state.
+/// is missing, and with 15 where a look-up is or, before all else, the numbers name no state.
 #[no_mangle]
 pub extern "C" fn findspot_first_not_outside(
     state: StateNumbers,

@@ -19,6 +19,8 @@ use Rattle.walk.specs.declared.Query.{Query}
 use Rattle.walk.specs.declared.Node.{Node}
 use Rattle.walk.specs.declared.Node as Node
 use Rattle.walk.specs.declared.Node.the-variants.{Missed, Leaf, Cut}
+use Rattle.walk.specs.declared.Stop.{Stop}
+use Rattle.walk.specs.declared.Stop as Stop
 use Rattle.walk.specs.declared.Step.{Step}
 use Rattle.walk.specs.declared.Step as Step
 use Rattle.walk.specs.declared.Step.the-variants.{Edge, End}
@@ -26,7 +28,7 @@ use Rattle.walk.specs.declared.edges.Edge as Found
 use Rattle.walk.specs.declared.place.Place as Place
 use Rattle.walk.specs.Edges.{EdgeSound, EdgeSays, edgeNumber}
 use Rattle.walk.specs.Places.{PlaceSound, PlanReach, IndexReach, PlaceSays, placeNumber}
-use Rattle.walk.specs.Steps.{stepNumber, enters, Lent, Inside, NodeSays, WalkSound, Begun, Says}
+use Rattle.walk.specs.Steps.{stepNumber, enters, Lent, Inside, NodeSays, WalkSound, Begun, Says, stopNumber, Walking, StopSays}
 use Rattle.walk.specs.Walks.{Walked}
 use Rattle.walk.proofs.Walked.{begun, stepped, some-edges, all-met, never-unsound}
 
@@ -44,6 +46,20 @@ pub short-refused : (n : ℕ) (boxes : List (List ℤ)) (parts : List (List ℕ)
 short-refused n boxes parts edges query stack c stack′ (Edge e c′) f s = absurd (f (s .lent))
 short-refused n boxes parts edges query stack c stack′ End f s = absurd (f (s .lent))
 short-refused n boxes parts edges query stack c stack′ Step.the-variants.Unsound f s = refl
+
+-- and the same up to a leaf
+pub short-stopped : (n : ℕ) (boxes : List (List ℤ)) (parts : List (List ℕ)) (edges : List ℕ) (query : Query) (stack : List ℕ) (c : Cursor) (stack′ : List ℕ) (r : Stop)
+    → (Lent n (length stack) (length boxes) (length parts) (length edges) c → ⊥) → StopSays n boxes parts edges query stack c stack′ r → stopNumber r ≡ 15
+short-stopped n boxes parts edges query stack c stack′ (Stop.the-variants.Leaf here) f s = absurd (f (s .going .lent))
+short-stopped n boxes parts edges query stack c stack′ Stop.the-variants.End f s = absurd (f (s .lent))
+short-stopped n boxes parts edges query stack c stack′ Stop.the-variants.Unsound f s = refl
+
+-- 15 on sound tables
+pub never-stopped : (n : ℕ) (corners : List ℤ) (rings : List ℕ) (boxes : List (List ℤ)) (parts : List (List ℕ)) (edges : List ℕ) (query : Query) (stack : List ℕ) (c : Cursor) (stack′ : List ℕ) (r : Stop)
+    → WalkSound n corners rings boxes parts edges → Walking n parts stack c → StopSays n boxes parts edges query stack c stack′ r → stopNumber r ≡ 0
+never-stopped n corners rings boxes parts edges query stack c stack′ (Stop.the-variants.Leaf here) T W s = refl
+never-stopped n corners rings boxes parts edges query stack c stack′ Stop.the-variants.End T W s = refl
+never-stopped n corners rings boxes parts edges query stack c stack′ Stop.the-variants.Unsound T W s = absurd (s corners rings T W)
 
 module _ (n : ℕ) (corners : List ℤ) (rings : List ℕ) (boxes : List (List ℤ)) (parts : List (List ℕ)) (edges : List ℕ) (T : WalkSound n corners rings boxes parts edges) (query : Query) (stack : List ℕ) (c : Cursor) where
   module _ (room : 18 ≤ length stack) (root : getD stack 0 0 ≡ 0) (B : Begun n c) where

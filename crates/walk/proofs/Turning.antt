@@ -114,6 +114,7 @@ module _ (n : ℕ) (boxes : List (List ℤ)) (parts : List (List ℕ)) (edges : 
     few = L .few-waiting;
     inside = L .inside;
     near = omega arith;
+    stays = λ h. refl;
     turned = λ corners rings T S. record { walking = S; on = omega arith; over = λ k a b. absurd (omega arith) };
   }
 
@@ -131,14 +132,15 @@ module _ (n : ℕ) (boxes : List (List ℤ)) (parts : List (List ℕ)) (edges : 
     pub going-never : Never n boxes parts edges stack′ here → Never n boxes parts edges stack c
     going-never f corners rings T S = f corners rings T (G .turned corners rings T S .walking)
 
-    pub going-on : (stack″ : List ℕ) (further : Cursor) → length stack″ ≡ length stack′ → Advanced n boxes parts query stack′ here stack″ further → Going n boxes parts edges query stack c stack″ further
-    going-on stack″ further long A = record {
+    pub going-on : here .to ≤ here .at → (stack″ : List ℕ) (further : Cursor) → length stack″ ≡ length stack′ → Advanced n boxes parts query stack′ here stack″ further → Going n boxes parts edges query stack c stack″ further
+    going-on e stack″ further long A = record {
       lent = G .lent;
       long = long ∙ G .long;
       same = A .same ∙ G .same;
       few = A .few;
       inside = A .inside;
       near = omega (arith, A .less, G .near);
+      stays = λ h. absurd (omega (arith, e, h, ap (λ (x : Cursor). x .at) (G .stays h), ap (λ (x : Cursor). x .to) (G .stays h)));
       turned = λ corners rings T S. both corners rings T S (G .turned corners rings T S);
     }
       where

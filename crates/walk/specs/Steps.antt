@@ -216,8 +216,8 @@ pub record Ends (n : ℕ) (boxes : List (List ℤ)) (parts : List (List ℕ)) (e
 
 -- ---- up to a leaf
 
--- a walk goes on from one cursor to another: the tables are long enough, the numbers stay within them, and it is no farther from its end.
--- On sound tables the places passed over have no edge whose box is one to enter
+-- a walk goes on from one cursor to another: the tables are long enough, the numbers stay within them, and it is no farther from its end;
+-- with a leaf in hand it stays. On sound tables the places passed over have no edge whose box is one to enter
 pub record Going (n : ℕ) (boxes : List (List ℤ)) (parts : List (List ℕ)) (edges : List ℕ) (query : Query) (stack : List ℕ) (cursor : Cursor) (stack′ : List ℕ) (here : Cursor) : Type 0 where
   pub lent : Lent n (length stack) (length boxes) (length parts) (length edges) cursor
   pub long : length stack′ ≡ length stack
@@ -225,6 +225,7 @@ pub record Going (n : ℕ) (boxes : List (List ℤ)) (parts : List (List ℕ)) (
   pub few : here .waiting ≤ 18
   pub inside : here .to ≤ n
   pub near : remaining here ≤ remaining cursor
+  pub stays : cursor .at < cursor .to → here ≡ cursor
   pub turned : (corners : List ℤ) (rings : List ℕ) → WalkSound n corners rings boxes parts edges → Walking n parts stack cursor → Turned n corners rings edges parts query cursor stack′ here
 
 -- it has a leaf in hand

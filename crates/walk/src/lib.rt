@@ -207,7 +207,8 @@ pub fn start(n: usize) -> Cursor
 }
 
 /// The next leaf of a walk that looks for what the query says, or the end. A walk that has a leaf in hand stays where it is. The tables
-/// are only read; what the stack is, and when 15 (`Unsound`) comes, is as `next` has it.
+/// are only read; what the stack is, and when 15 (`Unsound`) comes, is as `next` has it, but for edge numbers: whoever takes them tests
+/// them.
 ///
 /// On sound tables, with a cursor and a stack as `start` and earlier calls left them, no edge of the places passed over on the way has a
 /// box that the query enters. Whoever takes the leaf's edges goes on from its end, with `to` as `at`.

@@ -71,7 +71,7 @@ loop-again : tie.Need-loop-again Inv-loop μ-loop
 loop-again c =
     let a = c .before .before .before .before .before .before .before .before .before .before .before .before .before .before .before .before .args in
     let l = c .before .before .before .before .before .before .before .before .before .before .before .loop in
-    going-on (a .n) (a .boxes .now) (a .parts .now) (a .edges .now) (a .query) (a .stack .now) (a .cursor) (l .stack) (l .here) (l .inv) _ _ (c .before .before .before .before .before .meet-node .kept .0) (advanced c)
+    going-on (a .n) (a .boxes .now) (a .parts .now) (a .edges .now) (a .query) (a .stack .now) (a .cursor) (l .stack) (l .here) (l .inv) (c .before .before .before .before .before .before .before .before .before .if2 .taken) _ _ (c .before .before .before .before .before .meet-node .kept .0) (advanced c)
 
 same-length-3 : tie.Need-same-length-3 Inv-loop μ-loop
 same-length-3 c = search needs

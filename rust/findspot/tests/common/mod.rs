@@ -52,7 +52,7 @@ pub fn plan(random: &mut Random) -> Plan {
         scale,
         shift,
     };
-    let rings = random.pick(&[0, 1, 1, 2, 3, 8, 40, 120]);
+    let rings = random.pick(&[0, 1, 1, 2, 3, 8, 40, 300]);
     let rings: Vec<Vec<Point>> = (0..rings).map(|_| ring(random, spread)).collect();
     match random.below(3) {
         0 => Plan::tree(rings),
