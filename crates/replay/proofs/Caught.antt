@@ -9,6 +9,7 @@ use lib.IntN.{ℤ, pos}
 use lib.ListN.{length, getD, drop}
 use lib.Seq.{drop-append-seam}
 use Rattle.rules.specs.declared.Refusal.{Refusal}
+use Rattle.rules.specs.Numbers.{refusalNumber}
 use Rattle.rules.specs.declared.State.{State}
 use Rattle.rules.specs.Plans.{Plan, planInRange}
 use Rattle.prepare.specs.declared.Preparing as Preparing
@@ -21,7 +22,7 @@ use Rattle.model.specs.Prepared.{Prepared}
 use Rattle.model.specs.Demand.{AsFirst, lent}
 use Rattle.replay.specs.declared.Outcome.{Outcome}
 use Rattle.replay.specs.declared.Outcome.the-variants.{Ran, Refused, AnswersTooShort}
-use Rattle.replay.specs.Replays.{Replayed, Lent, endState, judged, replaying, Replays}
+use Rattle.replay.specs.Replays.{Replayed, Lent, endState, judged, replaying, Replays, replayNumber}
 
 module _ (plan : Plan) (before after : Lent) (calls : List (List ℤ)) (r : Outcome) (R : Replays plan before after calls r) where
   -- calls run although their answers have no room, or prepare's refusal first
@@ -41,6 +42,13 @@ module _ (plan : Plan) (before after : Lent) (calls : List (List ℤ)) (r : Outc
     -- another number than preparing's
     pub refusal-kept : (refusal : Refusal) → preparing plan (roomOf (before .tables)) ≡ Preparing.the-variants.Refused refusal → r ≡ Refused refusal
     refusal-kept refusal e = judged-is ∙ ap (λ q. judged q (endState plan (length (before .undo)) calls)) e
+
+    -- in numbers: 0 where the calls were run, else preparing's
+    pub number-ran : (state : State) (nodes : ℕ) → preparing plan (roomOf (before .tables)) ≡ Ready state nodes → replayNumber r ≡ 0
+    number-ran state nodes e = ap replayNumber (not-refused state nodes e)
+
+    pub number-kept : (refusal : Refusal) → preparing plan (roomOf (before .tables)) ≡ Preparing.the-variants.Refused refusal → replayNumber r ≡ refusalNumber refusal
+    number-kept refusal e = ap replayNumber (refusal-kept refusal e)
 
 -- tables written before a refusal
 pub refusal-writes-nothing : (plan : Plan) (before after : Lent) (calls : List (List ℤ)) (refusal : Refusal) → Replays plan before after calls (Refused refusal) → after ≡ before
