@@ -1,7 +1,6 @@
 -- From the numbers that name a kind or a state to what is answered. Assumes nothing.
-use mathlib.Core.Path.{_≡_, refl, sym, ap, subst, _∙_}
+use mathlib.Core.Path.{_≡_, refl, sym, subst}
 use mathlib.Core.Bool.{Bool, true, false}
-use Prim.Native.Nat.{ℕ}
 use lib.IntN.{ℤ}
 use mir.Syntax.{w64}
 use mir.Val.{SFits}
@@ -27,7 +26,7 @@ use Rattle.capi.specs.declared.exports.PrepareAnswer.{PrepareAnswer}
 use Rattle.corrections.specs.declared.Corrected.{Corrected}
 use Rattle.states.specs.declared.StateNumbers.{StateNumbers}
 use Rattle.capi.specs.declared.moves.CorrectionAnswer.{CorrectionAnswer}
-use Rattle.states.specs.States.{kindNamed, kindNumber, markNumber, stateNamed, stateNumbers}
+use Rattle.states.specs.States.{kindNumber, markNumber, stateNamed, stateNumbers}
 use Rattle.capi.specs.Exports.{Replied, Listed, PrepareSays, CorrectionSays, firstNumbers, prepareNumbers, correctionNumbers}
 
 -- ---- look-ups

@@ -2,7 +2,6 @@
 use mathlib.Core.Path.{_≡_, refl, sym, _∙_, ap, subst}
 use mathlib.Core.Bool.{Bool, true, false}
 use mathlib.Core.List.{List}
-use mathlib.Core.Logic.{_⊎_, inl, inr}
 use Prim.Native.Nat.{ℕ, _<_}
 use native.Mathlib.Omega.{arith}
 use lib.IntN.{ℤ}
@@ -12,7 +11,6 @@ use Rattle.geom.specs.Range.{inRange}
 use Rattle.rules.specs.declared.Location.{Location}
 use Rattle.rules.specs.declared.Location.the-variants.{Outside}
 use Rattle.rules.specs.declared.Refusal.{Refusal}
-use Rattle.rules.specs.declared.Refusal.the-variants.{Unsound}
 use Rattle.rules.specs.declared.Reply.{Reply}
 use Rattle.rules.specs.declared.Reply as Reply
 use Rattle.rules.specs.declared.State.{State}
@@ -20,13 +18,13 @@ use Rattle.rules.specs.declared.Verdict as Verdict
 use Rattle.rules.specs.declared.Verdict.the-variants.{Accepted}
 use Rattle.rules.specs.Plans.{cornersOf, planReply}
 use Rattle.rules.specs.Tables.{planOf}
-use Rattle.gather.specs.Regions.{LookSound, Enough}
+use Rattle.gather.specs.Regions.{LookSound}
 use Rattle.outlines.proofs.Steps.{at-refused}
 use Rattle.prepared.specs.declared.first.First.{First}
 use Rattle.prepared.specs.declared.first.First.the-variants.{At, AllOutside, Refused}
 use Rattle.prepared.specs.Calls.{Looked}
 use Rattle.prepared.specs.Firsts.{pointsVerdict, firstOf, FirstSays}
-use Rattle.prepared.proofs.Listing.{Earliest, at-none, none-all, all-none, place-earliest, at-not, none-not, never-first, placeIn}
+use Rattle.prepared.proofs.Listing.{Earliest, none-all, all-none, place-earliest, at-not, none-not, never-first, placeIn}
 
 module _ (state : State) (corners : List ℤ) (rings polygons : List ℕ) (boxes : List (List ℤ)) (parts : List (List ℕ)) (edges : List ℕ) (unmarked : state .«out_of_range» ≡ false) (sound : LookSound state corners rings polygons boxes parts edges) where
   -- ---- one look-up, on either grid

@@ -4,12 +4,12 @@ use mathlib.Core.Path.{_≡_, refl, sym, _∙_, ap, subst}
 use mathlib.Core.Bool.{Bool, true, false, not, cond, _&&_, _||_}
 use lib.Dec.{T}
 use lib.IntN.{ℤ, negℤ, _-ℤ_}
-use lib.Signed.{leZ, ltZ}
+use lib.Signed.{ltZ}
 use Rattle.integers.specs.declared.Sign.{Sign}
 use Rattle.integers.specs.declared.Sign.the-variants.{Negative, Zero, Positive}
 use Rattle.integers.specs.Signs.{signOf, isNegative, isPositive}
 use Rattle.integers.proofs.Signs.{lt-sign, gt-sign, le-sign}
-use Rattle.integers.proofs.Tests.{T-true, and-true, not-true, not-false, le-not-lt}
+use Rattle.integers.proofs.Tests.{T-true, le-not-lt}
 use Rattle.geom.specs.declared.Point.{Point}
 use Rattle.predicates.specs.Turn.{orientation}
 use Rattle.rules.specs.declared.Ray.{Ray}

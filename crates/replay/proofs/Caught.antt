@@ -1,25 +1,23 @@
 -- Wrong replays that the contract rules out, whatever their code is. Assumes nothing.
-use mathlib.Core.Path.{_≡_, refl, sym, ap, _∙_}
-use mathlib.Core.Bool.{true, cond}
+use mathlib.Core.Path.{_≡_, sym, ap, _∙_}
+use mathlib.Core.Bool.{cond}
 use mathlib.Core.List.{List, [], _++_, map}
 use Prim.Native.Nat.{ℕ, _≤_, _<_}
-use native.Mathlib.Omega.{arith}
 use borrow.Author.Tests.{le-ltb, lt-ltb}
-use lib.IntN.{ℤ, pos}
-use lib.ListN.{length, getD, drop}
-use lib.Seq.{drop-append-seam}
+use lib.IntN.{ℤ}
+use lib.ListN.{length, drop}
 use Rattle.rules.specs.declared.Refusal.{Refusal}
 use Rattle.rules.specs.Numbers.{refusalNumber}
 use Rattle.rules.specs.declared.State.{State}
-use Rattle.rules.specs.Plans.{Plan, planInRange}
+use Rattle.rules.specs.Plans.{Plan}
 use Rattle.prepare.specs.declared.Preparing as Preparing
 use Rattle.prepare.specs.declared.Preparing.the-variants.{Ready}
 use Rattle.prepare.specs.Answers.{preparing}
-use Rattle.prepare.specs.Tables.{Tables, roomOf}
+use Rattle.prepare.specs.Tables.{roomOf}
 use Rattle.model.specs.Coded.{callOf}
 use Rattle.model.specs.Model.{modelAfter}
 use Rattle.model.specs.Prepared.{Prepared}
-use Rattle.model.specs.Demand.{AsFirst, lent}
+use Rattle.model.specs.Demand.{lent}
 use Rattle.replay.specs.declared.Outcome.{Outcome}
 use Rattle.replay.specs.declared.Outcome.the-variants.{Ran, Refused, AnswersTooShort}
 use Rattle.replay.specs.Replays.{Replayed, Lent, endState, judged, replaying, Replays, replayNumber}

@@ -13,7 +13,7 @@ use Rattle.index.specs.Parts.{firstAt, countAt}
 use Rattle.index.proofs.Soundness.{edge-in}
 use Rattle.walk.specs.declared.Cursor.{Cursor}
 use Rattle.walk.specs.declared.Query.{Query}
-use Rattle.walk.specs.Steps.{Whether, Inside, Lent, Waiting, MissedTo, LeafFrom, CutInto, afterNode, remaining, WalkSound, Walking, MissedAt, Turned, Advanced, Going, InHand, Never, Yields, Ends, atPlace}
+use Rattle.walk.specs.Steps.{Whether, Inside, Lent, Waiting, MissedTo, LeafFrom, CutInto, afterNode, WalkSound, Walking, MissedAt, Turned, Advanced, Going, Never, Yields, Ends, atPlace}
 use Rattle.walk.proofs.Missing.{part-missed}
 use Rattle.walk.proofs.Standing.{walking-at, walking-end, top-first, not-all-met, top-inside, top-deep, walking-off, walking-cut}
 

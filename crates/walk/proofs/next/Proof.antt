@@ -1,6 +1,6 @@
 -- `walk::next` meets its contract: the edge at the first place of the leaf in hand.
 use borrow.Author.Needs.{needs}
-use mathlib.Core.Path.{_≡_, subst, sym}
+use mathlib.Core.Path.{subst, sym}
 use native.Mathlib.Omega.{arith}
 use lib.ListN.{getD}
 use Rattle.walk.specs.declared.Cursor.{Cursor}
