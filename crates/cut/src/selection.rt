@@ -79,9 +79,10 @@ struct Split {
     reads: usize,
 }
 
-// Moves the numbers of [lo, hi) that are at most v in front of the others. Each number changes places with the first one above v, if it
-// is above v too, so that nothing but the count of those in front hangs on the comparison: a branch that goes either way as often would
-// cost more than the swap. Each number is counted when it is read to be compared with v; what `swap` reads again to move it is not.
+// Moves the numbers of [lo, hi) that are at most v in front of the others. Each number changes places with the first one above v, also
+// where it is above v itself: so only the count of those in front hangs on the comparison, and no branch, which would cost more than the
+// swap where it goes either way as often. Each number is counted when it is read to be compared with v; what `swap` reads again to move
+// it is not.
 fn partition(values: &mut [usize], lo: usize, hi: usize, v: usize) -> Split
     requires { ⌜ (lo ≤ hi) × (hi ≤ length (now values)) ⌝ }
     ensures { λ r. ⌜ PartedRead lo hi v (now (values .entry)) (now (values .exit)) (r .place) (r .reads) ⌝ }

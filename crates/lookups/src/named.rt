@@ -125,69 +125,72 @@ fn holed_at(coordinates: &[i64], lengths: &[usize], x: i64, y: i64, place: Locat
     )
 }
 
+// A square with two holes, the smaller one first, and with the same holes the other way round.
+const SMALL_FIRST: [i64; 24] = [
+    0,
+    0,
+    10,
+    0,
+    10,
+    10,
+    0,
+    10,
+    4,
+    4,
+    6,
+    4,
+    6,
+    6,
+    4,
+    6,
+    5,
+    4,
+    8,
+    4,
+    8,
+    6,
+    5,
+    6,
+];
+
+const SMALL_LAST: [i64; 24] = [
+    0,
+    0,
+    10,
+    0,
+    10,
+    10,
+    0,
+    10,
+    5,
+    4,
+    8,
+    4,
+    8,
+    6,
+    5,
+    6,
+    4,
+    4,
+    6,
+    4,
+    6,
+    6,
+    4,
+    6,
+];
+
 // P5 to P7: a hole, a hole in nothing, and two holes in either order.
 fn holes() -> Tally {
     let holed: [i64; 16] = [0, 0, 10, 0, 10, 10, 0, 10, 4, 4, 6, 4, 6, 6, 4, 6];
     let square: [i64; 8] = [0, 0, 10, 0, 10, 10, 0, 10];
-    let small_first: [i64; 24] = [
-        0,
-        0,
-        10,
-        0,
-        10,
-        10,
-        0,
-        10,
-        4,
-        4,
-        6,
-        4,
-        6,
-        6,
-        4,
-        6,
-        5,
-        4,
-        8,
-        4,
-        8,
-        6,
-        5,
-        6,
-    ];
-    let small_last: [i64; 24] = [
-        0,
-        0,
-        10,
-        0,
-        10,
-        10,
-        0,
-        10,
-        5,
-        4,
-        8,
-        4,
-        8,
-        6,
-        5,
-        6,
-        4,
-        4,
-        6,
-        4,
-        6,
-        6,
-        4,
-        6,
-    ];
     let fours: [usize; 3] = [4; 3];
     let empty_outer: [usize; 2] = [0, 4];
     holed_at(&holed, &fours[..2], 5, 5, Location::Outside)
         .with(holed_at(&holed, &fours[..2], 4, 5, Location::OnBoundary))
         .with(holed_at(&square, &empty_outer, 5, 5, Location::Outside))
-        .with(holed_at(&small_first, &fours, 5, 5, Location::Outside))
-        .with(holed_at(&small_last, &fours, 5, 5, Location::OnBoundary))
+        .with(holed_at(&SMALL_FIRST, &fours, 5, 5, Location::Outside))
+        .with(holed_at(&SMALL_LAST, &fours, 5, 5, Location::OnBoundary))
 }
 
 // P8 and P9: two squares that overlap, as a list and as a tree.

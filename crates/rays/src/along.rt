@@ -87,7 +87,7 @@ fn beyond(ray: Ray, a: Point, b: Point) -> bool
     }
 }
 
-// The side to which an edge wholly ahead of the point turns if it rises there, or one wholly behind it if it falls there: left.
+// A turn to the left where the flag is set, else to the right.
 fn left_if(flag: bool) -> Sign
     ensures { λ r. ⌜ r ≡ leftIf flag ⌝ }
 {
