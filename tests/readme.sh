@@ -2,7 +2,8 @@
 # Runs the commands of README.md as they stand there, in a fresh clone of this repository's last commit, and compares what they write
 # where README shows it.
 #
-#   tests/readme.sh           every command, from nothing: `rt check` and `.ci/run` prove every crate
+#   tests/readme.sh           every command, from nothing: `rt check` and `.ci/run` prove every crate, and the first reply of ./findspot has
+#                             to show how far its build is
 #   tests/readme.sh --quick   all but these two, over a copy of this folder's target/, so that no library is proved anew
 #   tests/readme.sh --list    says what it would run, and runs nothing
 #
@@ -11,6 +12,11 @@
 set -u
 cd "$(dirname "$0")/.." || exit 2
 root=$PWD
+# The gate of a clone does not stand beside the original's source, which it takes from there.
+if [ -z "${POLYCLIP_SRC:-}" ] && [ -d ../shared/docs/src/src ]; then
+    POLYCLIP_SRC=$(cd ../shared/docs/src/src && pwd -P)
+    export POLYCLIP_SRC
+fi
 first_words=' rt .ci/run ./findspot cc cargo python3 '
 long_ones=' rt check;.ci/run;'
 mode=whole
@@ -30,6 +36,8 @@ ran=0
 compared=0
 failed=0
 left_out=0
+# whether the program is still to be built
+builds=1
 
 # The clone in which the commands are run.
 make_clone() {
@@ -68,6 +76,21 @@ run() {
         tail -n 20 "$work/errors"
         fail "line $2: $command"
     }
+    if [ "$mode" = whole ] && [ "$builds" = 1 ] && [[ $command == ./findspot* ]]; then
+        builds=0
+        check_progress "$2"
+    fi
+}
+
+# check_progress LINE: the first reply of a clone came after lines on standard error that count the crates proved, from 0 to all of them
+check_progress() {
+    local all shown
+    all=$(sed -n 's/^findspot: 0 of \([0-9]*\) crates proved$/\1/p' "$work/errors")
+    shown=$(grep -c "^findspot: [0-9]* of ${all:-none} crates proved$" "$work/errors")
+    echo "readme: line $1: its build showed $shown counts of ${all:-no} crates proved"
+    if [ "$shown" -lt 2 ] || [ "$shown" -ne $((all + 1)) ]; then
+        fail "line $1: its build did not show how far it was"
+    fi
 }
 
 # compare LINE: what the commands of the block before wrote ends with the block in $work/block

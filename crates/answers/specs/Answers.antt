@@ -70,17 +70,18 @@ abbrev pub outcomeNumber : Outcome → ℕ
 outcomeNumber (Written count) = 0
 outcomeNumber OutputTooShort = 11
 
--- an output of fewer than 65,536 bytes gets 11 before anything is written
+-- 11 where the output is shorter than the answer, and only there
 abbrev pub outcomeOf : List ℕ → ℕ → Outcome
-outcomeOf input room = cond (ltb room 65536) OutputTooShort (Written (length (answered input)))
+outcomeOf input room = cond (ltb room (length (answered input))) OutputTooShort (Written (length (answered input)))
 
 -- the output starts with the answer and is otherwise as it was
 abbrev pub outputAfter : Outcome → List ℕ → List ℕ → List ℕ
 outputAfter (Written count) bytes output = overwritten 0 bytes output
 outputAfter OutputTooShort bytes output = output
 
--- what `answer` promises: what it returns, the output whole, and that no answer is longer than 33,000 bytes
+-- what `answer` promises: what it returns, its number by the same condition, the output whole, and that no answer is longer than 33,000 bytes
 pub record Answered (input output output′ : List ℕ) (r : Outcome) : Type 0 where
   pub answer : r ≡ outcomeOf input (length output)
+  pub number : outcomeNumber r ≡ cond (ltb (length output) (length (answered input))) 11 0
   pub written : output′ ≡ outputAfter r (answered input) output
   pub few : length (answered input) ≤ 33000

@@ -5,11 +5,12 @@ ghost use Rattle.fields.specs.Pieces.{split};
 ghost use Rattle.fields.specs.Written.{Wrote};
 ghost use Rattle.lines.specs.Plans.{meaning};
 ghost use Rattle.answers.specs.Replies.{replies, handed, Due};
-ghost use Rattle.answers.specs.Answers.{planText, judged, Admitted, Tables, Answered};
+ghost use Rattle.answers.specs.Answers.{planText, judged, Admitted, answered, Tables, Answered};
 
 mod parts;
 mod replies;
 
+use fields::write::put;
 use parts::first_query;
 use prepare::Preparing;
 use prepare::prepare;
@@ -24,14 +25,14 @@ use text::read_plan;
 /// The most bytes that an input may have.
 pub const MAX_INPUT: usize = 16384;
 
-/// The fewest bytes that an output may have. No answer has more than 33,000.
-pub const MIN_OUTPUT: usize = 65536;
+// Room for any answer: none has more than 33,000 bytes.
+const ANSWER_ROOM: usize = 65536;
 
 /// What answering an input comes to.
 pub enum Outcome {
     /// The answer is in the output, and this is how many bytes it has.
     Written(usize),
-    /// 11: the output has fewer than 65,536 bytes. Nothing was written.
+    /// 11: the output has fewer bytes than the answer. Nothing was written.
     OutputTooShort,
 }
 
@@ -123,24 +124,36 @@ fn answer_in(
     }
 }
 
+// The whole answer to an input, and how many bytes it has.
+fn answer_whole(input: &[u8], output: &mut [u8]) -> usize
+    requires { ⌜ 65536 ≤ length (now output) ⌝ }
+    ensures { λ r. ⌜ Wrote 0 (answered (now (input .entry))) (now (output .entry)) (now (output .exit)) r ⌝ }
+{
+    if MAX_INPUT < input.len() {
+        return put_refusal(output, 0, 1, 0);
+    }
+    let mut corners = [0i64; 1024];
+    let mut lengths = [0usize; 256];
+    let mut counts = [0usize; 256];
+    answer_in(input, &mut corners, &mut lengths, &mut counts, output)
+}
+
 /// Writes what `findspot` answers to an input at the output's start; the rest of the output stays as it was.
 ///
 /// The lines before the first one whose first field is `coin` or `half` are the plan. It is judged first; then each later line is replied to
 /// in turn: its own bytes, a tab, and `inside`, `outside` or `boundary`. A refusal writes `refused`, its number and the line (0 where none),
 /// and nothing after it: 1 for an input of more than 16,384 bytes, 2 for the first line that breaks the format, 11 for a plan of more than
 /// 512 corners or 256 rings. All of these are `Written`. Refused with 11 (`OutputTooShort`), with nothing written, where the output has
-/// fewer than 65,536 bytes.
+/// fewer bytes than the answer; no answer has more than 33,000. It takes up to 720 KiB of
+/// stack, most of it for look-ups that meet more than 128 rings.
 pub fn answer(input: &[u8], output: &mut [u8]) -> Outcome
     ensures { λ r. ⌜ Answered (now (input .entry)) (now (output .entry)) (now (output .exit)) r ⌝ }
 {
-    if output.len() < MIN_OUTPUT {
+    let mut whole = [0u8; ANSWER_ROOM];
+    let count = answer_whole(input, &mut whole);
+    if output.len() < count {
         return Outcome::OutputTooShort;
     }
-    if MAX_INPUT < input.len() {
-        return Outcome::Written(put_refusal(output, 0, 1, 0));
-    }
-    let mut corners = [0i64; 1024];
-    let mut lengths = [0usize; 256];
-    let mut counts = [0usize; 256];
-    Outcome::Written(answer_in(input, &mut corners, &mut lengths, &mut counts, output))
+    put(output, 0, &whole[..count]);
+    Outcome::Written(count)
 }

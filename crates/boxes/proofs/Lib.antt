@@ -3,3 +3,4 @@ pub mod Unions
 pub mod Leasts
 pub mod PlanEdges
 pub mod OneRing
+mod Caught

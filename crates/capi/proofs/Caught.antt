@@ -1,5 +1,5 @@
--- The contract of the C entry, whatever the code is, leaves five answers. Assumes nothing.
-use mathlib.Core.Path.{_≡_, refl, ap}
+-- Wrong answers that the contracts of the C entry and of the exports rule out, whatever the code is. Assumes nothing.
+use mathlib.Core.Path.{_≡_, refl, ap, _∙_}
 use mathlib.Core.Bool.{Bool, true, false, cond}
 use mathlib.Core.Logic.{_⊎_, inl, inr}
 use mathlib.Core.List.{List}
@@ -11,11 +11,20 @@ use borrow.Author.Tests.{lt-ltb}
 use Rattle.geom.specs.declared.Point.{Point}
 use Rattle.rules.specs.declared.Location.{Location}
 use Rattle.rules.specs.declared.Location.the-variants.{Outside, Inside, OnBoundary}
-use Rattle.rules.specs.declared.Refusal.the-variants.{TextTooLong}
+use Rattle.rules.specs.declared.Refusal.the-variants.{TextTooLong, Unsound}
 use Rattle.rules.specs.declared.Reply.the-variants.{Refused}
 use Rattle.rules.specs.Numbers.{locationNumber, replyNumber}
 use Rattle.rules.specs.Plans.{planReply}
+use Rattle.model.specs.declared.Answer as Answer
 use Rattle.lines.specs.Plans.{Meaning, Start, Gives, Broken, meaning}
+use Rattle.rules.specs.declared.State.{State}
+use Rattle.rules.specs.declared.Verdict.the-variants.{Accepted}
+use Rattle.prepared.specs.declared.first.First.{First}
+use Rattle.prepared.specs.Firsts.{pointsVerdict}
+use Rattle.states.specs.declared.NamedState.the-variants.{Unknown}
+use Rattle.capi.specs.declared.exports.FirstAnswer.{FirstAnswer}
+use Rattle.capi.specs.Exports as Exports
+use Rattle.capi.specs.Exports.{firstNumbers, unnamedFirst, correctionRefusal}
 use Rattle.capi.specs.Replies.{replyIn, textReply}
 
 -- 0, 1, 2, −1 or −2
@@ -45,3 +54,13 @@ five-answers text p = go (ltb 65536 (length text))
 pub too-long-first : (text : List ℕ) (p : Point) → 65536 < length text → replyNumber (textReply text p) ≡ negsuc 0
 unfolding textReply
 too-long-first text p h = ap (λ b. replyNumber (cond b (Refused TextTooLong) (replyIn (meaning text) p))) (lt-ltb 65536 (length text) h)
+
+-- ---- the exports
+
+-- an acceptance told as a refusal: 0 alone says that a correction was made
+pub accepted-zero : correctionRefusal Answer.the-variants.Accepted ≡ 0
+accepted-zero = refl
+
+-- numbers that name no state: 15 for a list that is neither too long nor odd, and so neither a place nor none
+pub unnamed-fifteen : (points : List ℤ) (Promised : State → First → Type 0) (answer : FirstAnswer) → Exports.Listed Unknown points Promised answer → pointsVerdict points ≡ Accepted → answer .refusal ≡ 15
+unnamed-fifteen points Promised answer is e = ap (λ (a : FirstAnswer). a .refusal) (is ∙ ap (λ v. firstNumbers (unnamedFirst v)) e)

@@ -1,3 +1,4 @@
 pub mod Readings
 pub mod Namings
+pub mod Sessions
 mod Caught

@@ -1,22 +1,17 @@
 -- From the numbers that name a kind or a state to what is answered. Assumes nothing.
 use mathlib.Core.Path.{_≡_, refl, sym, subst}
 use mathlib.Core.Bool.{Bool, true, false}
+use mathlib.Core.List.{List}
 use lib.IntN.{ℤ}
-use mir.Syntax.{w64}
-use mir.Val.{SFits}
-use Rattle.geom.specs.declared.Point.{Point}
-use Rattle.integers.proofs.Bits.{rd, rd-is}
 use Rattle.rules.specs.declared.Kind.{Kind}
 use Rattle.rules.specs.declared.Kind.the-variants.{Polygons, Tree}
 use Rattle.rules.specs.declared.Refusal.the-variants.{Unsound}
-use Rattle.rules.specs.declared.Reply.{Reply}
-use Rattle.rules.specs.declared.Reply as Reply
 use Rattle.rules.specs.declared.State.{State}
-use Rattle.rules.specs.Numbers.{refusalNumber, replyNumber}
+use Rattle.rules.specs.Numbers.{refusalNumber}
 use Rattle.prepare.specs.declared.Preparing.{Preparing}
 use Rattle.prepare.specs.declared.Preparing as Preparing
 use Rattle.prepared.specs.declared.first.First.{First}
-use Rattle.prepared.specs.declared.first.First as First
+use Rattle.prepared.specs.Firsts.{pointsVerdict}
 use Rattle.states.specs.declared.NamedKind.{NamedKind}
 use Rattle.states.specs.declared.NamedKind as NamedKind
 use Rattle.states.specs.declared.NamedState.{NamedState}
@@ -27,26 +22,15 @@ use Rattle.corrections.specs.declared.Corrected.{Corrected}
 use Rattle.states.specs.declared.StateNumbers.{StateNumbers}
 use Rattle.capi.specs.declared.moves.CorrectionAnswer.{CorrectionAnswer}
 use Rattle.states.specs.States.{kindNumber, markNumber, stateNamed, stateNumbers}
-use Rattle.capi.specs.Exports.{Replied, Listed, PrepareSays, CorrectionSays, firstNumbers, prepareNumbers, correctionNumbers}
-
--- ---- look-ups
-
-pub replied-unknown : (named : NamedState) (Promised : State → Reply → Type 0) (answer : ℤ) → named ≡ Unknown → answer ≡ replyNumber (Reply.the-variants.Refused Unsound) → Replied named Promised answer
-replied-unknown named Promised answer e is = subst (λ n. Replied n Promised answer) (sym e) is
-
--- the point's numbers were read from bits
-pub replied-known : (named : NamedState) (state : State) (x y : ℤ) (Promised : Point → State → Reply → Type 0) (reply : Reply) (answer : ℤ) → named ≡ Known state → SFits w64 x → SFits w64 y → Promised (record { x = rd x; y = rd y }) state reply → answer ≡ replyNumber reply → Replied named (Promised (record { x = x; y = y })) answer
-replied-known named state x y Promised reply answer e fx fy promised is =
-    subst (λ n. Replied n (Promised (record { x = x; y = y })) answer) (sym e)
-    (reply, subst (λ p. Promised p state reply) (λ i. record { x = rd-is x fx i; y = rd-is y fy i }) promised, is)
+use Rattle.capi.specs.Exports.{unnamedFirst, Listed, PrepareSays, CorrectionSays, firstNumbers, prepareNumbers, correctionNumbers}
 
 -- ---- lists of points
 
-pub listed-unknown : (named : NamedState) (Promised : State → First → Type 0) (answer : FirstAnswer) → named ≡ Unknown → answer ≡ firstNumbers (First.the-variants.Refused Unsound) → Listed named Promised answer
-listed-unknown named Promised answer e is = subst (λ n. Listed n Promised answer) (sym e) is
+pub listed-unknown : (named : NamedState) (points : List ℤ) (Promised : State → First → Type 0) (answer : FirstAnswer) → named ≡ Unknown → answer ≡ firstNumbers (unnamedFirst (pointsVerdict points)) → Listed named points Promised answer
+listed-unknown named points Promised answer e is = subst (λ n. Listed n points Promised answer) (sym e) is
 
-pub listed-known : (named : NamedState) (state : State) (Promised : State → First → Type 0) (first : First) (answer : FirstAnswer) → named ≡ Known state → Promised state first → answer ≡ firstNumbers first → Listed named Promised answer
-listed-known named state Promised first answer e promised is = subst (λ n. Listed n Promised answer) (sym e) (first, promised, is)
+pub listed-known : (named : NamedState) (points : List ℤ) (state : State) (Promised : State → First → Type 0) (first : First) (answer : FirstAnswer) → named ≡ Known state → Promised state first → answer ≡ firstNumbers first → Listed named points Promised answer
+listed-known named points state Promised first answer e promised is = subst (λ n. Listed n points Promised answer) (sym e) (first, promised, is)
 
 -- ---- preparing
 
@@ -63,10 +47,6 @@ correction-unknown named Promised Same numbers answer e same is = subst (λ n. C
 
 pub correction-known : (named : NamedState) (state : State) (Promised : State → Corrected → Type 0) (Same : Type 0) (numbers : StateNumbers) (corrected : Corrected) (answer : CorrectionAnswer) → named ≡ Known state → Promised state corrected → answer ≡ correctionNumbers corrected → CorrectionSays named Promised Same numbers answer
 correction-known named state Promised Same numbers corrected answer e promised is = subst (λ n. CorrectionSays n Promised Same numbers answer) (sym e) (corrected, promised, is)
-
--- the place that a move names was read from bits
-pub place-read : (Promised : Point → Type 0) (x y : ℤ) → SFits w64 x → SFits w64 y → Promised (record { x = rd x; y = rd y }) → Promised (record { x = x; y = y })
-place-read Promised x y fx fy promised = subst Promised (λ i. record { x = rd-is x fx i; y = rd-is y fy i }) promised
 
 -- ---- a state's own numbers name it, so that what a call answers can be handed to the next
 pub state-returns : (state : State) → stateNamed (stateNumbers state) ≡ Known state

@@ -1,23 +1,34 @@
 -- What the exports over lent tables answer (document 01, items 6 to 9 and 11).
 use mathlib.Core.Path.{_≡_}
+use mathlib.Core.Bool.{Bool}
 use mathlib.Core.List.{List}
 use Prim.Native.Nat.{ℕ}
 use lib.IntN.{ℤ}
+use Rattle.geom.specs.declared.Point.{Point}
 use Rattle.rules.specs.declared.Kind.{Kind}
+use Rattle.rules.specs.declared.Location.{Location}
 use Rattle.rules.specs.declared.Refusal.{Refusal}
 use Rattle.rules.specs.declared.Refusal.the-variants.{Unsound}
-use Rattle.rules.specs.declared.Reply.{Reply}
-use Rattle.rules.specs.declared.Reply.the-variants.{Refused}
 use Rattle.rules.specs.declared.State.{State}
-use Rattle.rules.specs.Numbers.{refusalNumber, refusalDetail, replyNumber}
+use Rattle.rules.specs.declared.Verdict.{Verdict}
+use Rattle.rules.specs.declared.Verdict.the-variants.{Accepted}
+use Rattle.rules.specs.declared.Verdict as Verdict
+use Rattle.rules.specs.Numbers.{refusalNumber, refusalDetail}
+use Rattle.rules.specs.Plans.{Plan}
+use Rattle.rules.specs.Tables.{planOf}
 use Rattle.prepare.specs.declared.Preparing.{Preparing}
 use Rattle.prepare.specs.declared.Preparing.the-variants.{Ready}
 use Rattle.prepare.specs.declared.Preparing as Preparing
 use Rattle.prepared.specs.declared.first.First.{First}
 use Rattle.prepared.specs.declared.first.First as First
-use Rattle.prepared.specs.Firsts.{firstNumber, firstFound, firstPlace}
+use Rattle.query.specs.Calls.{LookedUp}
+use Rattle.prepared.specs.Calls.{Looked}
+use Rattle.prepared.specs.Firsts.{pointsVerdict, firstNumber, firstFound, firstPlace}
 use Rattle.model.specs.declared.Answer.{Answer}
 use Rattle.model.specs.declared.Answer as Answer
+use Rattle.model.specs.declared.Call.{Call}
+use Rattle.model.specs.Prepared.{preparedOf}
+use Rattle.model.specs.Steps.{Step}
 use Rattle.corrections.specs.declared.Corrected.{Corrected}
 use Rattle.states.specs.declared.StateNumbers.{StateNumbers}
 use Rattle.states.specs.declared.NamedKind.{NamedKind}
@@ -27,20 +38,30 @@ use Rattle.states.specs.declared.NamedState.the-variants.{Known, Unknown}
 use Rattle.capi.specs.declared.exports.PrepareAnswer.{PrepareAnswer}
 use Rattle.capi.specs.declared.exports.FirstAnswer.{FirstAnswer}
 use Rattle.capi.specs.declared.moves.CorrectionAnswer.{CorrectionAnswer}
-use Rattle.states.specs.States.{stateNumbers}
+use Rattle.states.specs.States.{stateNamed, stateNumbers, Replied}
 
--- a look-up's number, by what is promised of its reply; 15 where the numbers name no state
-abbrev pub Replied : NamedState → (State → Reply → Type 0) → ℤ → Type 0
-Replied Unknown Promised answer = answer ≡ replyNumber (Refused Unsound)
-Replied (Known state) Promised answer = (reply : Reply) × Promised state reply × (answer ≡ replyNumber reply)
+-- a look-up through the boxes, of a point that is in range or not, and the place that the plan in the tables gives it
+abbrev pub LooksUp : (Point → Bool) → (Plan → Point → Location) → StateNumbers → List ℤ → List ℕ → List ℕ → List (List ℤ) → List (List ℕ) → List ℕ → Point → ℤ → Type 0
+LooksUp ranged location numbers corners rings polygons boxes parts edges p answer =
+    Replied (stateNamed numbers) (λ s reply. Looked s corners rings polygons boxes parts edges (ranged p) (location (planOf s corners rings polygons) p) reply) answer
+
+-- the same ring by ring, which is lent neither boxes nor parts nor edges
+abbrev pub LooksUpByRings : (Point → Bool) → (Plan → Point → Location) → StateNumbers → List ℤ → List ℕ → List ℕ → Point → ℤ → Type 0
+LooksUpByRings ranged location numbers corners rings polygons p answer =
+    Replied (stateNamed numbers) (λ s reply. LookedUp s corners rings polygons (ranged p) (location (planOf s corners rings polygons) p) reply) answer
 
 -- what a list of points is answered in numbers
 abbrev pub firstNumbers : First → FirstAnswer
 firstNumbers first = record { refusal = firstNumber first; found = firstFound first; place = firstPlace first }
 
-abbrev pub Listed : NamedState → (State → First → Type 0) → FirstAnswer → Type 0
-Listed Unknown Promised answer = answer ≡ firstNumbers (First.the-variants.Refused Unsound)
-Listed (Known state) Promised answer = (first : First) × Promised state first × (answer ≡ firstNumbers first)
+-- "coin list 4, 3, 15": the list's own refusal comes before that of numbers that name no state
+abbrev pub unnamedFirst : Verdict → First
+unnamedFirst Accepted = First.the-variants.Refused Unsound
+unnamedFirst (Verdict.the-variants.Refused refusal) = First.the-variants.Refused refusal
+
+abbrev pub Listed : NamedState → List ℤ → (State → First → Type 0) → FirstAnswer → Type 0
+Listed Unknown points Promised answer = answer ≡ firstNumbers (unnamedFirst (pointsVerdict points))
+Listed (Known state) points Promised answer = (first : First) × Promised state first × (answer ≡ firstNumbers first)
 
 -- the numbers of no state
 abbrev pub noState : StateNumbers
@@ -78,3 +99,10 @@ pub record Written : Type 0 where
   pub corners : List ℤ
   pub boxes : List (List ℤ)
   pub undo : List (List ℤ)
+
+-- a move or an undo over lent tables: a step of the model, whatever the polygons are, which it is not lent
+abbrev pub Corrects : Call → StateNumbers → List ℤ → List ℕ → List (List ℤ) → List (List ℕ) → List ℕ → List (List ℤ) → List ℤ → List (List ℤ) → List (List ℤ) → CorrectionAnswer → Type 0
+Corrects call numbers corners rings boxes parts edges undo corners′ boxes′ undo′ answer =
+    CorrectionSays (stateNamed numbers)
+    (λ s corrected. ((polygons : List ℕ) → Step call (preparedOf s corners rings polygons boxes parts edges undo) (corrected .answer) (preparedOf (corrected .state) corners′ rings polygons boxes′ parts edges undo′)))
+    (_≡_ {A = Written} (record { corners = corners′; boxes = boxes′; undo = undo′ }) (record { corners = corners; boxes = boxes; undo = undo })) numbers answer

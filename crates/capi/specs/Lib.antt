@@ -1,2 +1,3 @@
 pub mod Replies
 pub mod Exports
+pub mod Sessions

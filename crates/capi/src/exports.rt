@@ -6,24 +6,23 @@ ghost use Rattle.rules.specs.declared.Refusal.the-variants.{Unsound};
 ghost use Rattle.rules.specs.declared.Reply.the-variants.{Refused};
 ghost use Rattle.rules.specs.Numbers.{replyNumber};
 ghost use Rattle.rules.specs.Plans.{planReply, planHalfReply};
-ghost use Rattle.rules.specs.Tables.{planOf};
-ghost use Rattle.query.specs.Calls.{LookedUp};
 ghost use Rattle.prepare.specs.Tables.{Tables, Prepared};
-ghost use Rattle.prepared.specs.Calls.{Looked};
-ghost use Rattle.prepared.specs.Firsts.{FirstSays};
+ghost use Rattle.prepared.specs.Firsts.{pointsVerdict, FirstSays};
 ghost use Rattle.states.specs.States.{kindNamed, stateNamed};
-ghost use Rattle.capi.specs.Exports.{noState, firstNumbers, prepareNumbers, Replied, Listed, PrepareSays};
+ghost use Rattle.capi.specs.Exports.{noState, firstNumbers, prepareNumbers, unnamedFirst, LooksUp, LooksUpByRings, Listed, PrepareSays};
 use geom::Point;
 use prepare::Preparing;
 use prepare::prepare;
 use prepared::first::First;
 use prepared::first::first_not_outside;
+use prepared::first::judge_points;
 use prepared::locate::locate;
 use prepared::locate::locate_doubled;
 use query::locate_by_rings;
 use query::locate_doubled_by_rings;
 use rules::Refusal;
 use rules::Reply;
+use rules::Verdict;
 use rules::refusal_detail;
 use rules::refusal_number;
 use rules::reply_number;
@@ -165,7 +164,7 @@ pub extern "C" fn findspot_locate(
     x: i64,
     y: i64,
 ) -> i64
-    ensures { λ r. ⌜ Replied (stateNamed state) (λ s reply. Looked s (now (corners .entry)) (now (rings .entry)) (now (polygons .entry)) (now (boxes .entry)) (now (parts .entry)) (now (edges .entry)) (inRange (record { x = x; y = y })) (planReply (planOf s (now (corners .entry)) (now (rings .entry)) (now (polygons .entry))) (record { x = x; y = y })) reply) r ⌝ }
+    ensures { λ r. ⌜ LooksUp inRange planReply state (now (corners .entry)) (now (rings .entry)) (now (polygons .entry)) (now (boxes .entry)) (now (parts .entry)) (now (edges .entry)) (record { x = x; y = y }) r ⌝ }
 {
     match state_of(state) {
         NamedState::Unknown => unsound(),
@@ -195,7 +194,7 @@ pub extern "C" fn findspot_locate_doubled(
     x: i64,
     y: i64,
 ) -> i64
-    ensures { λ r. ⌜ Replied (stateNamed state) (λ s reply. Looked s (now (corners .entry)) (now (rings .entry)) (now (polygons .entry)) (now (boxes .entry)) (now (parts .entry)) (now (edges .entry)) (inDoubledRange (record { x = x; y = y })) (planHalfReply (planOf s (now (corners .entry)) (now (rings .entry)) (now (polygons .entry))) (record { x = x; y = y })) reply) r ⌝ }
+    ensures { λ r. ⌜ LooksUp inDoubledRange planHalfReply state (now (corners .entry)) (now (rings .entry)) (now (polygons .entry)) (now (boxes .entry)) (now (parts .entry)) (now (edges .entry)) (record { x = x; y = y }) r ⌝ }
 {
     match state_of(state) {
         NamedState::Unknown => unsound(),
@@ -222,7 +221,7 @@ pub extern "C" fn findspot_locate_by_rings(
     x: i64,
     y: i64,
 ) -> i64
-    ensures { λ r. ⌜ Replied (stateNamed state) (λ s reply. LookedUp s (now (corners .entry)) (now (rings .entry)) (now (polygons .entry)) (inRange (record { x = x; y = y })) (planReply (planOf s (now (corners .entry)) (now (rings .entry)) (now (polygons .entry))) (record { x = x; y = y })) reply) r ⌝ }
+    ensures { λ r. ⌜ LooksUpByRings inRange planReply state (now (corners .entry)) (now (rings .entry)) (now (polygons .entry)) (record { x = x; y = y }) r ⌝ }
 {
     match state_of(state) {
         NamedState::Unknown => unsound(),
@@ -246,7 +245,7 @@ pub extern "C" fn findspot_locate_doubled_by_rings(
     x: i64,
     y: i64,
 ) -> i64
-    ensures { λ r. ⌜ Replied (stateNamed state) (λ s reply. LookedUp s (now (corners .entry)) (now (rings .entry)) (now (polygons .entry)) (inDoubledRange (record { x = x; y = y })) (planHalfReply (planOf s (now (corners .entry)) (now (rings .entry)) (now (polygons .entry))) (record { x = x; y = y })) reply) r ⌝ }
+    ensures { λ r. ⌜ LooksUpByRings inDoubledRange planHalfReply state (now (corners .entry)) (now (rings .entry)) (now (polygons .entry)) (record { x = x; y = y }) r ⌝ }
 {
     match state_of(state) {
         NamedState::Unknown => unsound(),
@@ -260,8 +259,18 @@ pub extern "C" fn findspot_locate_doubled_by_rings(
     }
 }
 
-/// The first of the listed points x, y, x, y, .. that is not outside, through the boxes. Refused with 4 or 3 where the list is too long or a y
-/// is missing, and with 15 where a look-up is or, before all else, the numbers name no state.
+// What a list of points is answered where the numbers name no state: its own 4 or 3, else 15.
+fn unnamed_first(points: &[i64]) -> First
+    ensures { λ r. ⌜ r ≡ unnamedFirst (pointsVerdict (now (points .entry))) ⌝ }
+{
+    match judge_points(points) {
+        Verdict::Refused(refusal) => First::Refused(refusal),
+        Verdict::Accepted => First::Refused(Refusal::Unsound),
+    }
+}
+
+/// The first of the listed points x, y, x, y, .. that is not outside, through the boxes. Refused, in this order, with 4 or 3 where the list is
+/// too long or a y is missing, and with 15 where the numbers name no state or a look-up is.
 #[no_mangle]
 pub extern "C" fn findspot_first_not_outside(
     state: StateNumbers,
@@ -273,10 +282,10 @@ pub extern "C" fn findspot_first_not_outside(
     edges: &[usize],
     points: &[i64],
 ) -> FirstAnswer
-    ensures { λ r. ⌜ Listed (stateNamed state) (λ s first. FirstSays s (now (corners .entry)) (now (rings .entry)) (now (polygons .entry)) (now (boxes .entry)) (now (parts .entry)) (now (edges .entry)) (now (points .entry)) first) r ⌝ }
+    ensures { λ r. ⌜ Listed (stateNamed state) (now (points .entry)) (λ s first. FirstSays s (now (corners .entry)) (now (rings .entry)) (now (polygons .entry)) (now (boxes .entry)) (now (parts .entry)) (now (edges .entry)) (now (points .entry)) first) r ⌝ }
 {
     match state_of(state) {
-        NamedState::Unknown => first_answer(First::Refused(Refusal::Unsound)),
+        NamedState::Unknown => first_answer(unnamed_first(points)),
         NamedState::Known(known) => first_answer(first_not_outside(
             known,
             corners,

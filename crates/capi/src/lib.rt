@@ -5,6 +5,7 @@ ghost use Rattle.capi.specs.Replies.{textReply, Roomy};
 
 pub mod exports;
 pub mod moves;
+pub mod reading;
 
 use geom::Point;
 use query::locate;

@@ -1,12 +1,7 @@
 // Corrections for a server that keeps prepared plans: a corner moved and a move undone over tables that it lends (document 01, item 9).
 ghost use mathlib.Core.Path.{_≡_};
-ghost use mathlib.Core.List.{List};
-ghost use Prim.Native.Nat.{ℕ};
 ghost use Rattle.model.specs.declared.Call.the-variants.{Move, Undo};
-ghost use Rattle.model.specs.Prepared.{preparedOf};
-ghost use Rattle.model.specs.Steps.{Step};
-ghost use Rattle.states.specs.States.{stateNamed};
-ghost use Rattle.capi.specs.Exports.{correctionRefusal, correctionNumbers, CorrectionSays, Written};
+ghost use Rattle.capi.specs.Exports.{correctionRefusal, correctionNumbers, Corrects};
 use corrections::Corrected;
 use corrections::move_corner;
 use corrections::undo;
@@ -66,7 +61,7 @@ pub extern "C" fn findspot_move(
     x: i64,
     y: i64,
 ) -> CorrectionAnswer
-    ensures { λ r. ⌜ CorrectionSays (stateNamed state) (λ s corrected. ((polygons : List ℕ) → Step (Move corner (record { x = x; y = y })) (preparedOf s (now (corners .entry)) (now (rings .entry)) polygons (now (boxes .entry)) (now (parts .entry)) (now (edges .entry)) (now (undo .entry))) (corrected .answer) (preparedOf (corrected .state) (now (corners .exit)) (now (rings .entry)) polygons (now (boxes .exit)) (now (parts .entry)) (now (edges .entry)) (now (undo .exit))))) (_≡_ {A = Written} (record { corners = now (corners .exit); boxes = now (boxes .exit); undo = now (undo .exit) }) (record { corners = now (corners .entry); boxes = now (boxes .entry); undo = now (undo .entry) })) state r ⌝ }
+    ensures { λ r. ⌜ Corrects (Move corner (record { x = x; y = y })) state (now (corners .entry)) (now (rings .entry)) (now (boxes .entry)) (now (parts .entry)) (now (edges .entry)) (now (undo .entry)) (now (corners .exit)) (now (boxes .exit)) (now (undo .exit)) r ⌝ }
 {
     match state_of(state) {
         NamedState::Unknown => CorrectionAnswer {
@@ -100,7 +95,7 @@ pub extern "C" fn findspot_undo(
     edges: &[usize],
     records: &[[i64; 3]],
 ) -> CorrectionAnswer
-    ensures { λ r. ⌜ CorrectionSays (stateNamed state) (λ s corrected. ((polygons : List ℕ) → Step Undo (preparedOf s (now (corners .entry)) (now (rings .entry)) polygons (now (boxes .entry)) (now (parts .entry)) (now (edges .entry)) (now (records .entry))) (corrected .answer) (preparedOf (corrected .state) (now (corners .exit)) (now (rings .entry)) polygons (now (boxes .exit)) (now (parts .entry)) (now (edges .entry)) (now (records .entry))))) (_≡_ {A = Written} (record { corners = now (corners .exit); boxes = now (boxes .exit); undo = now (records .entry) }) (record { corners = now (corners .entry); boxes = now (boxes .entry); undo = now (records .entry) })) state r ⌝ }
+    ensures { λ r. ⌜ Corrects Undo state (now (corners .entry)) (now (rings .entry)) (now (boxes .entry)) (now (parts .entry)) (now (edges .entry)) (now (records .entry)) (now (corners .exit)) (now (boxes .exit)) (now (records .entry)) r ⌝ }
 {
     match state_of(state) {
         NamedState::Unknown => CorrectionAnswer {

@@ -1,12 +1,14 @@
 -- From a correction to what the public calls promise. Assumes nothing.
-use mathlib.Core.Path.{_≡_, sym, ap, _∙_, subst}
+use mathlib.Core.Path.{_≡_, refl, sym, ap, _∙_, subst}
 use mathlib.Core.Bool.{true}
 use mathlib.Core.Logic.{inl, inr}
 use mathlib.Core.List.{List}
 use Prim.Native.Nat.{ℕ, _+_, _<_}
+use native.Mathlib.Omega.{arith}
 use lib.IntN.{ℤ}
 use lib.ListN.{length, set}
 use Rattle.geom.specs.declared.Point.{Point}
+use Rattle.geom.specs.Range.{inRange}
 use Rattle.rules.specs.declared.Refusal.the-variants.{Unsound}
 use Rattle.rules.specs.declared.State.{State}
 use Rattle.boxes.proofs.PlanEdges.{plan-rings, plan-corners}
@@ -18,8 +20,8 @@ use Rattle.model.specs.declared.Call.the-variants.{Move, Undo}
 use Rattle.model.specs.declared.Early.the-variants.{Open}
 use Rattle.model.specs.Entries.{Entry, entryOf, undoRow, putCorner, putBack}
 use Rattle.model.specs.Prepared.{Prepared, preparedOf, Sound}
-use Rattle.model.specs.Steps.{moveEarly, undoEarly, early, atDepth, latest, Step}
-use Rattle.model.proofs.Ways.{unsound-step}
+use Rattle.model.specs.Steps.{moveEarly, undoEarly, early, atDepth, latest, ReachesBeside, Reaches, NamesCorner, Step}
+use Rattle.model.proofs.Ways.{unsound-step, open-move}
 use Rattle.model.proofs.Tables.{Refitted, recorded, move-done, takenBack, undo-done}
 use Rattle.corrections.specs.declared.Corrected.{Corrected}
 use Rattle.placing.specs.Ways.{CorrectionSound}
@@ -53,12 +55,18 @@ module _ (state : State) (corners : List ℤ) (rings polygons : List ℕ) (boxes
       index = subst (λ (c : List ℤ). IndexSound (state .corners) c rings boxes′ parts edges) (M .corners-are) (M .sound (correction-sound S));
     }
 
+    -- what a correction was made with reaches
+    made-reaches : (old : Point) → MadeAt (state .corners) (state .rings) rings parts edges i place corners boxes corners′ boxes′ old → (call : Call) → ReachesBeside call given → Reaches call given
+    made-reaches old M call beside =
+        let E = M .enough in
+        record { corners = E .corners-reach; rings = E .rings-reach; boxes = E .boxes-reach; parts = E .parts-reach; edges = E .edges-reach; beside = beside }
+
     -- a move that was made and recorded
     pub moved-step : (old : Point) → MadeAt (state .corners) (state .rings) rings parts edges i place corners boxes corners′ boxes′ old → (state′ : State) → state′ ≡ atDepth state (state .«undo_depth» + 1)
         → (undo′ : List (List ℤ)) → undo′ ≡ set undo (state .«undo_depth») (undoRow (record { corner = i; place = old })) → moveEarly state (length undo) true i place ≡ Open
         → Step (Move i place) given Accepted (preparedOf state′ corners′ rings polygons boxes′ parts edges undo′)
     moved-step old M state′ s undo′ u e =
-        subst (λ (d : Prepared). Step (Move i place) given Accepted d) (sym left) (move-done given i place e boxes′ (made-refitted old M))
+        subst (λ (d : Prepared). Step (Move i place) given Accepted d) (sym left) (move-done given i place e boxes′ (made-reaches old M (Move i place) (omega (arith, open-move state (length undo) true i place e .room refl))) (made-refitted old M))
       where
         row : undo′ ≡ set undo (state .«undo_depth») (undoRow (entryOf corners i))
         row = u ∙ ap (λ (p : Point). set undo (state .«undo_depth») (undoRow (record { corner = i; place = p }))) (M .old-is)
@@ -83,10 +91,14 @@ module _ (state : State) (corners : List ℤ) (rings polygons : List ℕ) (boxes
       taken-refitted : PutBack state rings parts edges i place corners boxes corners′ boxes′ r → Sound given → Refitted given (latest given .corner) (putBack corners (latest given)) boxes′
       taken-refitted B S = subst (λ (e : Entry). Refitted given (e .corner) (putBack corners e) boxes′) (λ t. record { corner = L .corner t; place = L .place-is t }) (made-refitted (B .old) (B .made) S)
 
+      -- it names a corner and a place in range
+      taken-names : NamesCorner Undo given
+      taken-names = (subst (λ k. k < state .corners) (L .corner) (L .one), sym (ap inRange (L .place-is)) ∙ L .near)
+
       pub taken-step : undoEarly state ≡ Open → TakenBack state rings parts edges i place corners boxes corners′ boxes′ r → Step Undo given (r .answer) (preparedOf (r .state) corners′ rings polygons boxes′ parts edges undo)
       unfolding left
       taken-step e (inl B) =
           subst (λ (a : Answer). Step Undo given a left) (sym (B .answer))
           (subst (λ (d : Prepared). Step Undo given Accepted d) (sym (taken-is B))
-          (undo-done given e boxes′ (taken-refitted B)))
+          (undo-done given e boxes′ (made-reaches (B .old) (B .made) Undo (L .reach)) taken-names (taken-refitted B)))
       taken-step e (inr N) = unmade-step Undo r (N .is) e (L .one) (N .unmade)

@@ -2,3 +2,4 @@ pub mod Shuffles
 pub mod Partings
 pub mod Selectings
 pub mod Packing
+mod Caught

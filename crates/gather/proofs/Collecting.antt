@@ -77,10 +77,10 @@ module _ (n count : ℕ) (corners : List ℤ) (rings : List ℕ) (boxes : List (
           told = N .told query (S .walk .few) (H .going .inside) (S .ends) (record { yielded = C .told .yielded; behind = far; told = C .told .told });
         }
 
-    pub collecting-end : Ends n boxes parts edges query stack c → ToldAll n count corners rings edges ray query p layout listed slots
-    collecting-end E =
+    pub collecting-end : (stack′ : List ℕ) → Ends n boxes parts edges query stack c stack′ → ToldAll n count corners rings edges ray query p layout listed slots
+    collecting-end stack′ E =
         let W : Walked n corners rings parts edges query stack c (C .told .yielded) = record { walking = C .walking; yielded = C .told .behind } in
-        let whole = ended n corners rings boxes parts edges (S .walk) query stack c (C .told .yielded) W E in
+        let whole = ended n corners rings boxes parts edges (S .walk) query stack c (C .told .yielded) W stack′ E in
         record {
           yielded = C .told .yielded;
           few = length-most corners rings edges query n (C .told .yielded) whole;

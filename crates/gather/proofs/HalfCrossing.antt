@@ -105,12 +105,12 @@ module _ (n count : ℕ) (corners : List ℤ) (rings : List ℕ) (boxes : List (
           counted = N query (S .ends) (record { yielded = C .counted .yielded; behind = far; off = C .counted .off; parity = C .counted .parity });
         }
 
-    pub crossing-end : Ends n boxes parts edges query stack c → ParityTo n corners rings edges query crossings odd
-    crossing-end E =
+    pub crossing-end : (stack′ : List ℕ) → Ends n boxes parts edges query stack c stack′ → ParityTo n corners rings edges query crossings odd
+    crossing-end stack′ E =
         let W : Walked n corners rings parts edges query stack c (C .counted .yielded) = record { walking = C .walking; yielded = C .counted .behind } in
         record {
           yielded = C .counted .yielded;
-          behind = ended n corners rings boxes parts edges (S .walk) query stack c (C .counted .yielded) W E;
+          behind = ended n corners rings boxes parts edges (S .walk) query stack c (C .counted .yielded) W stack′ E;
           off = C .counted .off;
           parity = C .counted .parity;
         }

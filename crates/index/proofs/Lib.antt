@@ -9,3 +9,4 @@ pub mod Readings
 pub mod Building
 pub mod Once
 pub mod Soundness
+mod Caught

@@ -14,7 +14,7 @@ use Rattle.cut.specs.Keys.{axisOf, CutPart}
 use Rattle.cut.specs.Shuffle.{Shuffled}
 use Rattle.cut.proofs.Shuffles.{shuffled-length, shuffled-each}
 use Rattle.index.specs.Parts.{firstAt, countAt}
-use Rattle.index.specs.Build.{Numbered, Two, Children, NodeCut}
+use Rattle.index.specs.Build.{Numbered, KeptFrom, Two, Children, NodeCut}
 
 -- ---- edge numbers in order
 pub numbered-none : (xs : List ℕ) → Numbered 0 xs xs
@@ -40,7 +40,24 @@ two xs u a b h =
       before = λ k l. getD-set-other (set xs u a) (u + 1) k b 0 (omega arith) ∙ getD-set-other xs u k a 0 (omega arith);
       at = getD-set-other (set xs u a) (u + 1) u b 0 (omega arith) ∙ getD-set-same xs u a 0 (omega arith);
       next = getD-set-same (set xs u a) (u + 1) b 0 (simp length-set h);
+      after = λ k l. getD-set-other (set xs u a) (u + 1) k b 0 (omega arith) ∙ getD-set-other xs u k a 0 (omega arith);
     }
+
+-- ---- working space
+pub kept-all : (m : ℕ) (xs : List ℕ) → KeptFrom m xs xs
+kept-all m xs = record { long = refl; rest = λ k l. refl }
+
+pub kept-both : (m : ℕ) (xs ys zs : List ℕ) → KeptFrom m xs ys → KeptFrom m ys zs → KeptFrom m xs zs
+kept-both m xs ys zs K L = record { long = L .long ∙ K .long; rest = λ k l. L .rest k l ∙ K .rest k l }
+
+pub kept-wider : (m l : ℕ) (xs ys : List ℕ) → m ≤ l → KeptFrom m xs ys → KeptFrom l xs ys
+kept-wider m l xs ys h K = record { long = K .long; rest = λ k i. K .rest k (omega arith) }
+
+pub kept-set : (m : ℕ) (xs ys : List ℕ) (i v : ℕ) → i < m → KeptFrom m xs ys → KeptFrom m xs (set ys i v)
+kept-set m xs ys i v h K = record { long = length-set ys i v ∙ K .long; rest = λ k l. getD-set-other ys i k v 0 (omega arith) ∙ K .rest k l }
+
+pub kept-two : (m : ℕ) (xs ys : List ℕ) (u a b : ℕ) (zs : List ℕ) → u + 1 < m → KeptFrom m xs ys → Two ys u a b zs → KeptFrom m xs zs
+kept-two m xs ys u a b zs h K T = record { long = T .long ∙ K .long; rest = λ k l. T .after k (omega arith) ∙ K .rest k l }
 
 -- ---- a node cut
 module _ (corners : List ℤ) (rings : List ℕ) (boxes : List (List ℤ)) (parts : List (List ℕ)) (edges : List ℕ) (p u : ℕ) (boxes′ : List (List ℤ)) (parts′ : List (List ℕ)) (edges′ : List ℕ) (reads : ℕ) where

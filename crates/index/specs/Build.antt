@@ -17,12 +17,18 @@ pub record Numbered (n : ℕ) (xs ys : List ℕ) : Type 0 where
   pub inside : (k : ℕ) → k < n → getD ys k 0 ≡ k
   pub after : (k : ℕ) → n ≤ k → getD ys k 0 ≡ getD xs k 0
 
--- ys has a at place u, b at place u + 1 and xs's entries before them; of the places after them nothing is said
+-- ys is as long as xs and has its entries from place m on: of working space only the first m numbers are written
+pub record KeptFrom (m : ℕ) (xs ys : List ℕ) : Type 0 where
+  pub long : length ys ≡ length xs
+  pub rest : (k : ℕ) → m ≤ k → getD ys k 0 ≡ getD xs k 0
+
+-- ys has a at place u, b at place u + 1 and xs's entries elsewhere
 pub record Two (xs : List ℕ) (u a b : ℕ) (ys : List ℕ) : Type 0 where
   pub long : length ys ≡ length xs
   pub before : (k : ℕ) → k < u → getD ys k 0 ≡ getD xs k 0
   pub at : getD ys u 0 ≡ a
   pub next : getD ys (u + 1) 0 ≡ b
+  pub after : (k : ℕ) → u + 1 < k → getD ys k 0 ≡ getD xs k 0
 
 -- the node at p with its two parts, whose boxes are given, at the places l and r
 pub record Children (boxes : List (List ℤ)) (parts : List (List ℕ)) (p l r f half rest : ℕ) (left right : Rect) (boxes′ : List (List ℤ)) (parts′ : List (List ℕ)) : Type 0 where

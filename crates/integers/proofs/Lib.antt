@@ -9,3 +9,4 @@ pub mod NoWrap
 pub mod Bits
 pub mod Halves
 pub mod Words
+mod Caught

@@ -10,7 +10,7 @@ use Rattle.fields.proofs.Pieces.{search-within}
 use Rattle.lines.specs.declared.stages.Stage.{Stage}
 use Rattle.lines.specs.declared.stages.Stage.the-variants as Stage
 use Rattle.lines.specs.Plans.{Meaning, Start, Gives, Broken, afterLine, atEnd, afterLines, meaning}
-use Rattle.lines.specs.Steps.{stageOf, stageAfter, stageAtEnd, StageCountable}
+use Rattle.lines.specs.Steps.{stageOf, stageAfter, stageAtEnd, StageCountable, brokenNumber, brokenLine, stageNumber, stageDetail, Judged}
 use Rattle.lines.proofs.Counting.{stage-after, stage-at-end}
 use Rattle.lines.proofs.LineByLine.{rowAt, next-line, last-line}
 use Rattle.lines.proofs.Spans.{least, row-bytes}
@@ -62,6 +62,16 @@ module _ (text : List ℕ) (so-far : Meaning) (line from end : ℕ) (g : Reached
 
 -- ---- by counts
 
+number-of : (m : Meaning) → stageNumber (stageOf m) ≡ brokenNumber m
+number-of Start = refl
+number-of (Gives plan) = refl
+number-of (Broken line) = refl
+
+line-of : (m : Meaning) → stageDetail (stageOf m) ≡ brokenLine m
+line-of Start = refl
+line-of (Gives plan) = refl
+line-of (Broken line) = refl
+
 pub countable : (n : ℕ) (so-far : Meaning) → n ≤ 65536 → Fine n so-far → StageCountable (stageOf so-far)
 countable n Start h g = tt
 countable n (Gives plan) h g = let b = g .bytes in let e = g .even in let p = fewer-polygons n plan g in (omega arith, omega arith, omega arith)
@@ -87,9 +97,12 @@ module _ (text : List ℕ) (stage : Stage) (line from end : ℕ) (g : Judging te
         reached = onward text (g .so-far) line from end (g .reached) h next e;
       }
 
-  pub judged : length text ≤ end → stageAtEnd line stage (ltb from end) ≡ stageOf (meaning text)
-  judged h =
+  at-last : length text ≤ end → stageAtEnd line stage (ltb from end) ≡ stageOf (meaning text)
+  at-last h =
       let w = end-within text (g .so-far) line from end (g .reached) in
       ap (λ s. stageAtEnd line s (ltb from end)) (g .is)
       ∙ stage-at-end line (g .so-far) text from end (g .reached .few) (omega arith)
       ∙ ap stageOf (sym (over text (g .so-far) line from end (g .reached) h))
+
+  pub judged : length text ≤ end → (r : Stage) → r ≡ stageAtEnd line stage (ltb from end) → Judged (meaning text) r
+  judged h r e = let is = e ∙ at-last h in record { stage = is; number = ap stageNumber is ∙ number-of (meaning text); detail = ap stageDetail is ∙ line-of (meaning text) }

@@ -1,4 +1,5 @@
 -- Item 10 a line at a time as the code does it: by sizes alone, and as stores into the tables. Lemmas tie these to `Plans`.
+use mathlib.Core.Path.{_≡_}
 use mathlib.Core.Bool.{Bool, cond}
 use mathlib.Core.List.{List}
 use Prim.Native.Nat.{ℕ, _+_, _-_, _*_, _≤_, _<_}
@@ -26,11 +27,39 @@ sizeAfter so-far Node = record { kind = so-far .kind; corners = so-far .corners;
 sizeAfter so-far (Corner p) = record { kind = so-far .kind; corners = so-far .corners + 1; rings = so-far .rings; polygons = so-far .polygons }
 sizeAfter so-far Malformed = so-far
 
+-- refusal 2 of a meaning, and its line
+abbrev pub brokenNumber : Meaning → ℕ
+brokenNumber Start = 2
+brokenNumber (Gives plan) = 0
+brokenNumber (Broken line) = 2
+
+abbrev pub brokenLine : Meaning → ℕ
+brokenLine Start = 1
+brokenLine (Gives plan) = 0
+brokenLine (Broken line) = line
+
 -- a meaning by its size
 abbrev pub stageOf : Meaning → Stage
 stageOf Start = Stage.the-variants.Start
 stageOf (Gives plan) = Stage.the-variants.Gives (sizeOf plan)
 stageOf (Broken line) = Stage.the-variants.Broken line
+
+-- 2 and its line where a line breaks a rule; a text without a line is broken in line 1
+abbrev pub stageNumber : Stage → ℕ
+stageNumber Stage.the-variants.Start = 2
+stageNumber (Stage.the-variants.Gives size) = 0
+stageNumber (Stage.the-variants.Broken line) = 2
+
+abbrev pub stageDetail : Stage → ℕ
+stageDetail Stage.the-variants.Start = 1
+stageDetail (Stage.the-variants.Gives size) = 0
+stageDetail (Stage.the-variants.Broken line) = line
+
+-- what a text comes to, by its meaning: the size of its plan, or 2 with the first line that breaks a rule
+pub record Judged (m : Meaning) (r : Stage) : Type 0 where
+  pub stage : r ≡ stageOf m
+  pub number : stageNumber r ≡ brokenNumber m
+  pub detail : stageDetail r ≡ brokenLine m
 
 -- line k, ended
 abbrev pub stageAfter : ℕ → Stage → Record → Stage

@@ -3,7 +3,7 @@ ghost use mathlib.Core.Path.{_≡_};
 ghost use Prim.Native.Nat.{_≤_};
 ghost use lib.ListN.{length};
 ghost use Rattle.lines.specs.Plans.{meaning, isHeader, allowed};
-ghost use Rattle.lines.specs.Steps.{Countable, StageCountable, emptySize, sizeAfter, stageOf, stageAfter, stageAtEnd};
+ghost use Rattle.lines.specs.Steps.{Countable, StageCountable, emptySize, sizeAfter, stageAfter, stageAtEnd, Judged};
 use crate::Size;
 use crate::records::Record;
 use crate::records::read_record;
@@ -139,7 +139,7 @@ fn at_end(stage: Stage, line: usize, unended: bool) -> Stage
 /// What a text comes to: the size of its plan, or the first line that breaks a rule.
 pub fn judge(text: &[u8]) -> Stage
     requires { ⌜ length (now text) ≤ 65536 ⌝ }
-    ensures { λ r. ⌜ r ≡ stageOf (meaning (now (text .entry))) ⌝ }
+    ensures { λ r. ⌜ Judged (meaning (now (text .entry))) r ⌝ }
 {
     let mut stage = Stage::Start;
     let mut line = 1;

@@ -3,7 +3,7 @@
 use mathlib.Core.Path.{_≡_, refl, sym, ap, _∙_, subst}
 use mathlib.Core.Bool.{Bool, true, false, cond}
 use mathlib.Core.List.{List, [], _∷_}
-use Prim.Native.Nat.{ℕ, _+_, _-_, _*_, _<_}
+use Prim.Native.Nat.{ℕ, _+_, _-_, _*_, _^_, _<_}
 use native.Mathlib.Omega.{arith}
 use lib.IntN.{ℤ, pos, natAbs}
 use lib.ListN.{length, getD}
@@ -13,7 +13,7 @@ use Rattle.geom.specs.Range.{inRange}
 use Rattle.predicates.specs.Turn.{orientation, onSegment}
 use Rattle.rules.specs.declared.Location.the-variants.{Outside, Inside}
 use Rattle.rules.specs.declared.Refusal.{Refusal}
-use Rattle.rules.specs.declared.Refusal.the-variants.{PlaceOutOfRange, UndoFull, NothingToUndo}
+use Rattle.rules.specs.declared.Refusal.the-variants.{PlaceOutOfRange, UndoFull, NothingToUndo, Unsound}
 use Rattle.rules.specs.declared.State.{State}
 use Rattle.rules.specs.Edges.{edgesFrom, edgesOf, allEdges, edgeWinding, winding, onEdge}
 use Rattle.rules.specs.Lists.{anyOf, countOf, sumOf, partsOf}
@@ -152,6 +152,26 @@ refusal-throughout f meets wrong = let w = wrong Undo later in accepted-refused 
 -- and nothing refused
 pub nothing-refused : (f : Engine) → Meets f → ((d : Prepared) → f Undo d .answer ≡ Accepted) → ⊥
 nothing-refused f meets wrong = accepted-refused NothingToUndo (sym (wrong first) ∙ meets Undo first .settled (Refused NothingToUndo) refl .0)
+
+-- 15 never given: a corner table that is too short, and a latest record that names no corner, or a place out of range
+abbrev cutShort : Prepared
+cutShort = record { state = first .state; corners = []; rings = first .rings; polygons = first .polygons; boxes = first .boxes; parts = first .parts; edges = first .edges; undo = first .undo }
+
+pub short-accepted : (f : Engine) → Meets f → ((i : ℕ) (place : Point) (d : Prepared) → f (Move i place) d .answer ≡ Accepted) → ⊥
+short-accepted f meets wrong =
+    accepted-refused Unsound (sym (wrong 1 (at (pos 20) (pos 0)) cutShort) ∙ meets (Move 1 (at (pos 20) (pos 0))) cutShort .short (early-move cutShort 1 (at (pos 20) (pos 0))) (λ R. let h = R .corners in omega arith))
+
+abbrev noCorner : Prepared
+noCorner = tables (pos 30) 1 ((pos 3 ∷ pos 10 ∷ pos 0 ∷ []) ∷ [])
+
+pub no-corner-undone : (f : Engine) → Meets f → f Undo noCorner .answer ≡ Accepted → ⊥
+no-corner-undone f meets wrong = accepted-refused Unsound (sym wrong ∙ meets Undo noCorner .stray refl (λ N. let h : 3 < 3 = N .0 in omega arith))
+
+abbrev farRecord : Prepared
+farRecord = tables (pos 30) 1 ((pos 1 ∷ pos (2 ^ 40 + 1) ∷ pos 0 ∷ []) ∷ [])
+
+pub far-record-undone : (f : Engine) → Meets f → f Undo farRecord .answer ≡ Accepted → ⊥
+far-record-undone f meets wrong = accepted-refused Unsound (sym wrong ∙ meets Undo farRecord .stray refl (λ N. true-false (sym (N .1))))
 
 -- always outside, on the grid and on the half-grid
 inside : planReply (planHeld first) (at (pos 1) (pos 1)) ≡ Inside

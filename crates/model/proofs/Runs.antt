@@ -28,7 +28,7 @@ use Rattle.model.specs.Prepared.{Prepared, planHeld, Sound, Above}
 use Rattle.model.specs.Steps.{early, latest, Step}
 use Rattle.model.specs.Demand.{Turn, callsOf, Run, Fresh}
 use Rattle.model.proofs.Corners.{edge-other}
-use Rattle.model.proofs.Ways.{at-refused, settled-step, done-step, accepted-step}
+use Rattle.model.proofs.Ways.{at-refused, settled-step, done-step, accepted-step, sound-reaches, sound-names, open-undo}
 use Rattle.model.proofs.Tables.{movedTo, Refitted, moved-does, takenBack, taken-does}
 
 -- ---- every node's box set to the smallest
@@ -130,7 +130,7 @@ next (Move i place) d s = go (early (Move i place) d) refl
         record {
           answer = Accepted;
           left = movedTo d i place (refitted d s i place);
-          step = accepted-step (Move i place) d (movedTo d i place (refitted d s i place)) e refl (λ t. w);
+          step = accepted-step (Move i place) d (movedTo d i place (refitted d s i place)) e refl (sound-reaches (Move i place) d s) tt (λ t. w);
           sound = w .corrected .sound;
         }
 next Undo d s = go (early Undo d) refl
@@ -140,17 +140,17 @@ next Undo d s = go (early Undo d) refl
     go Open e =
         let boxes = refitted d s (latest d .corner) (latest d .place) in
         let w = taken-does d s boxes (refitted-fits d s (latest d .corner) (latest d .place)) e in
-        record { answer = Accepted; left = takenBack d boxes; step = accepted-step Undo d (takenBack d boxes) e refl (λ t. w); sound = w .corrected .sound }
+        record { answer = Accepted; left = takenBack d boxes; step = accepted-step Undo d (takenBack d boxes) e refl (sound-reaches Undo d s) (sound-names d s (open-undo (d .state) e .1)) (λ t. w); sound = w .corrected .sound }
 next (Locate p) d s = go (early (Locate p) d) refl
   where
     go : (e : Early) → early (Locate p) d ≡ e → Next (Locate p) d
     go (Settled a) e = stays (Locate p) d a s e
-    go Open e = record { answer = At (planReply (planHeld d) p); left = d; step = done-step (Locate p) d (At (planReply (planHeld d) p)) d e (at-refused (planReply (planHeld d) p)) (λ l. refl) (λ t. refl); sound = s }
+    go Open e = record { answer = At (planReply (planHeld d) p); left = d; step = done-step (Locate p) d (At (planReply (planHeld d) p)) d e (at-refused (planReply (planHeld d) p)) (λ l. refl) (λ n. n (sound-reaches (Locate p) d s)) tt (λ t. refl); sound = s }
 next (LocateDoubled p) d s = go (early (LocateDoubled p) d) refl
   where
     go : (e : Early) → early (LocateDoubled p) d ≡ e → Next (LocateDoubled p) d
     go (Settled a) e = stays (LocateDoubled p) d a s e
-    go Open e = record { answer = At (planHalfReply (planHeld d) p); left = d; step = done-step (LocateDoubled p) d (At (planHalfReply (planHeld d) p)) d e (at-refused (planHalfReply (planHeld d) p)) (λ l. refl) (λ t. refl); sound = s }
+    go Open e = record { answer = At (planHalfReply (planHeld d) p); left = d; step = done-step (LocateDoubled p) d (At (planHalfReply (planHeld d) p)) d e (at-refused (planHalfReply (planHeld d) p)) (λ l. refl) (λ n. n (sound-reaches (LocateDoubled p) d s)) tt (λ t. refl); sound = s }
 
 -- ---- and so a run for every list
 pub record Runs (d : Prepared) (calls : List Call) : Type 0 where

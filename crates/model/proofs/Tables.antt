@@ -24,7 +24,7 @@ use Rattle.model.specs.declared.Early.the-variants.{Open, Settled}
 use Rattle.model.specs.Entries.{putCorner, putBack, Entry, entryOf, entryIn, undoRow, isRecorded}
 use Rattle.model.specs.Model.{standing}
 use Rattle.model.specs.Prepared.{Prepared, preparedOf, UndoSound, Sound, Above}
-use Rattle.model.specs.Steps.{moveEarly, undoEarly, early, atDepth, movedState, movedUndo, Moves, latest, TakesBack, Step}
+use Rattle.model.specs.Steps.{moveEarly, undoEarly, early, atDepth, movedState, movedUndo, Moves, latest, TakesBack, Reaches, NamesCorner, Step}
 use Rattle.model.specs.Demand.{Fresh}
 use Rattle.model.proofs.Corners.{put-length, corner-put, corner-other, put-take, corner-take, verdict-standing, all-near}
 use Rattle.model.proofs.Ways.{always-recorded, early-move, settled-step, unsound-step, accepted-step, OpenMove, open-move, open-undo}
@@ -180,18 +180,18 @@ module _ (d : Prepared) (i : ℕ) (place : Point) where
     pub move-unsound : (Sound d → ⊥) → Step (Move i place) d (Refused Unsound) d
     move-unsound never = unsound-step (Move i place) d (early-move d i place ∙ clear) never
 
-    pub move-done : (boxes : List (List ℤ)) → (Sound d → Refitted d i (putCorner (d .corners) i place) boxes) → Step (Move i place) d Accepted (recorded d i place boxes)
-    move-done boxes w =
+    pub move-done : (boxes : List (List ℤ)) → Reaches (Move i place) d → (Sound d → Refitted d i (putCorner (d .corners) i place) boxes) → Step (Move i place) d Accepted (recorded d i place boxes)
+    move-done boxes reaches w =
         subst (λ (v : Prepared). Step (Move i place) d Accepted v) as-recorded
-        (accepted-step (Move i place) d (movedTo d i place boxes) (early-move d i place ∙ clear) refl (λ s. moved-does d s i place boxes (w s) (early-move d i place ∙ clear)))
+        (accepted-step (Move i place) d (movedTo d i place boxes) (early-move d i place ∙ clear) refl reaches tt (λ s. moved-does d s i place boxes (w s) (early-move d i place ∙ clear)))
       where
         as-recorded : movedTo d i place boxes ≡ recorded d i place boxes
         as-recorded = λ t.
             preparedOf (movedState (always-recorded (cornerAt (d .corners) i) place t) (d .state)) (putCorner (d .corners) i place) (d .rings) (d .polygons) boxes (d .parts) (d .edges)
             (movedUndo (always-recorded (cornerAt (d .corners) i) place t) (d .state .«undo_depth») (entryOf (d .corners) i) (d .undo))
 
-pub undo-done : (d : Prepared) → undoEarly (d .state) ≡ Open → (boxes : List (List ℤ)) → (Sound d → Refitted d (latest d .corner) (putBack (d .corners) (latest d)) boxes) → Step Undo d Accepted (takenBack d boxes)
-undo-done d e boxes w = accepted-step Undo d (takenBack d boxes) e refl (λ s. taken-does d s boxes (w s) e)
+pub undo-done : (d : Prepared) → undoEarly (d .state) ≡ Open → (boxes : List (List ℤ)) → Reaches Undo d → NamesCorner Undo d → (Sound d → Refitted d (latest d .corner) (putBack (d .corners) (latest d)) boxes) → Step Undo d Accepted (takenBack d boxes)
+undo-done d e boxes reaches names w = accepted-step Undo d (takenBack d boxes) e refl reaches names (λ s. taken-does d s boxes (w s) e)
 
 -- ---- a plan just prepared in range, with any undo table
 pub fresh-tables : (d : Prepared) → PlanSound (d .state) (d .corners) (d .rings) (d .polygons) → IndexSound (d .state .corners) (d .corners) (d .rings) (d .boxes) (d .parts) (d .edges) → d .state .«out_of_range» ≡ false → d .state .«undo_depth» ≡ 0 → Fresh d

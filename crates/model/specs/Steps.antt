@@ -3,7 +3,7 @@ use mathlib.Core.Path.{_≡_}
 use mathlib.Core.Bool.{Bool, true, false, cond, _&&_}
 use mathlib.Core.Logic.{_⊎_}
 use mathlib.Core.List.{List, []}
-use Prim.Native.Nat.{ℕ, _+_, _-_}
+use Prim.Native.Nat.{ℕ, _+_, _-_, _*_, _≤_, _<_}
 use lib.Dec.{leb, eqb}
 use lib.IntN.{ℤ}
 use lib.ListN.{length, getD, set}
@@ -13,7 +13,9 @@ use Rattle.rules.specs.declared.Location.the-variants.{Outside}
 use Rattle.rules.specs.declared.Refusal.{Refusal}
 use Rattle.rules.specs.declared.Refusal.the-variants.{NoSuchCorner, PlaceOutOfRange, PlanOutOfRange, UndoFull, NothingToUndo, Unsound}
 use Rattle.rules.specs.declared.State.{State}
+use Rattle.rules.specs.Nodes.{nodeCount}
 use Rattle.rules.specs.Plans.{cornerAt, planReply, planHalfReply}
+use Rattle.rules.specs.Tables.{polygonsIn}
 use Rattle.model.specs.declared.Answer.{Answer}
 use Rattle.model.specs.declared.Answer.the-variants.{At, Accepted, Refused}
 use Rattle.model.specs.declared.Call.{Call}
@@ -110,6 +112,31 @@ isLookUp Undo = false
 isLookUp (Locate p) = true
 isLookUp (LocateDoubled p) = true
 
+-- ---- 15, whatever else the tables hold
+
+-- beside the tables that every call is lent, a correction is lent the undo table, and a look-up the polygons, of which a tree has none
+abbrev pub ReachesBeside : Call → Prepared → Type 0
+ReachesBeside (Move i place) d = d .state .«undo_depth» ≤ length (d .undo)
+ReachesBeside Undo d = d .state .«undo_depth» ≤ length (d .undo)
+ReachesBeside (Locate p) d = polygonsIn (d .state .kind) (d .state .polygons) ≤ length (d .polygons)
+ReachesBeside (LocateDoubled p) d = polygonsIn (d .state .kind) (d .state .polygons) ≤ length (d .polygons)
+
+-- no table that the call is lent is shorter than the state says
+pub record Reaches (call : Call) (d : Prepared) : Type 0 where
+  pub corners : 2 * d .state .corners ≤ length (d .corners)
+  pub rings : d .state .rings ≤ length (d .rings)
+  pub boxes : nodeCount (d .state .corners) ≤ length (d .boxes)
+  pub parts : nodeCount (d .state .corners) ≤ length (d .parts)
+  pub edges : d .state .corners ≤ length (d .edges)
+  pub beside : ReachesBeside call d
+
+-- the record that the call takes back names a corner and a place in range; no call but an undo takes one back
+abbrev pub NamesCorner : Call → Prepared → Type 0
+NamesCorner (Move i place) d = Unit {0}
+NamesCorner Undo d = (latest d .corner < d .state .corners) × (inRange (latest d .place) ≡ true)
+NamesCorner (Locate p) d = Unit {0}
+NamesCorner (LocateDoubled p) d = Unit {0}
+
 -- ---- one call, over all tables at entry and at exit
 pub record Step (call : Call) (d : Prepared) (a : Answer) (d′ : Prepared) : Type 0 where
   -- what is settled early is the answer, and nothing changes
@@ -119,5 +146,8 @@ pub record Step (call : Call) (d : Prepared) (a : Answer) (d′ : Prepared) : Ty
   -- a refused call changes nothing, and a look-up changes nothing
   pub refused : (refusal : Refusal) → a ≡ Refused refusal → d′ ≡ d
   pub looked : isLookUp call ≡ true → d′ ≡ d
+  -- 15 where nothing is settled early and a table that the call is lent is too short, or the record to take back is no record
+  pub short : early call d ≡ Open → (Reaches call d → ⊥) → a ≡ Refused Unsound
+  pub stray : early call d ≡ Open → (NamesCorner call d → ⊥) → a ≡ Refused Unsound
   -- on sound tables the call does what it is for, and so never gets 15; where nothing is settled early the plan is not marked
   pub does : Sound d → early call d ≡ Open → Does call d a d′

@@ -1,2 +1,4 @@
+pub mod Answers
+pub mod Tests
 pub mod Rows
 pub mod Refitting

@@ -1,8 +1,10 @@
 -- A refit of one node, and of a path node by node, as crate `refit` does it over tables of numbers. Assumes nothing.
 use mathlib.Core.Path.{_≡_, refl, sym, ap, _∙_, subst}
+use mathlib.Core.Bool.{true, _&&_}
 use mathlib.Core.List.{List, []}
 use Prim.Native.Nat.{ℕ, zero, suc, _+_, _-_, _*_, _≤_, _<_}
 use native.Mathlib.Omega.{arith}
+use borrow.Author.Tests.{lt-ltb}
 use lib.IntN.{ℤ}
 use lib.ListN.{length, getD, set, length-set}
 use lib.Seq.{getD-set-same}
@@ -19,6 +21,8 @@ use Rattle.refit.specs.Refits.{cutBox, joined, leafFitted, refitted}
 use Rattle.refit.proofs.Fitting.{leaf-smallest, refit-smallest}
 use Rattle.nodes.specs.declared.Node.{Node}
 use Rattle.nodes.specs.Nodes.{noNode, rectOfNode, fittedCut, fittedLeaf, Fits, boxRows, partRows, leafRefitted, cutRefitted, cutsRefitted, pathRefitted}
+use Rattle.nodes.specs.Answers.{isListed, leafSound, cutSound}
+use Rattle.nodes.proofs.Tests.{fits-test}
 use Rattle.nodes.proofs.Rows.{box-rows-length, part-rows-length, box-rows-set, part-rows-kept, rect-is, first-is, count-is, child-is}
 
 -- ---- one node by its edges
@@ -71,12 +75,12 @@ module _ (nodes : List Node) (p : ℕ) (l : p < length nodes) (k : getD nodes p 
 
 -- ---- on tables that are sound for the corners as they stood before. `corners` are those that stand now
 module _ (n : ℕ) (before : List ℤ) (rings : List ℕ) (boxes₀ : List (List ℤ)) (edges : List ℕ) (nodes : List Node) (S : IndexSound n before rings boxes₀ (partRows nodes) edges) (corners : List ℤ) where
-  -- both refits may be called at every node that they are for
-  pub listed : (p : ℕ) → p < nodeCount n → p < length nodes
+  -- every node is listed, and neither refit is refused at a node that it is for
+  listed : (p : ℕ) → p < nodeCount n → p < length nodes
   listed p l = omega (arith, S .parts-reach, part-rows-length nodes)
 
-  pub leaf-asked : (count : ℕ) → 2 * n ≤ length corners → RingEnds n count rings → (p : ℕ) → p < nodeCount n → Fits n count corners rings edges (getD nodes p noNode)
-  leaf-asked count reach ends p l =
+  leaf-fits : (count : ℕ) → 2 * n ≤ length corners → RingEnds n count rings → (p : ℕ) → p < nodeCount n → Fits n count corners rings edges (getD nodes p noNode)
+  leaf-fits count reach ends p l =
       let first = first-is nodes p (listed p l) in
       let size = count-is nodes p (listed p l) in
       record {
@@ -85,10 +89,19 @@ module _ (n : ℕ) (before : List ℤ) (rings : List ℕ) (boxes₀ : List (List
         names = subst (Names n edges (getD nodes p noNode .first)) size (subst (λ (f : ℕ). Names n edges f (countAt (partRows nodes) p)) first (part-names n before rings boxes₀ (partRows nodes) edges S p l));
       }
 
-  pub cut-asked : (p : ℕ) → p < nodeCount n → 8 < countAt (partRows nodes) p → getD nodes p noNode .child + 1 < length nodes
-  cut-asked p l big =
+  children-listed : (p : ℕ) → p < nodeCount n → 8 < countAt (partRows nodes) p → getD nodes p noNode .child + 1 < length nodes
+  children-listed p l big =
       let later = children-later n before rings boxes₀ (partRows nodes) edges S p l big .1 in
       omega (arith, S .parts-reach, part-rows-length nodes, child-is nodes p (listed p l))
+
+  pub place-sound : (p : ℕ) → p < nodeCount n → isListed nodes p ≡ true
+  place-sound p l = lt-ltb p (length nodes) (listed p l)
+
+  pub leaf-sound : (count : ℕ) → 2 * n ≤ length corners → RingEnds n count rings → (p : ℕ) → p < nodeCount n → leafSound n count corners rings edges nodes p ≡ true
+  leaf-sound count reach ends p l = λ i. place-sound p l i && fits-test n count corners rings edges (getD nodes p noNode) (leaf-fits count reach ends p l) i
+
+  pub cut-sound : (p : ℕ) → p < nodeCount n → 8 < countAt (partRows nodes) p → cutSound nodes p ≡ true
+  cut-sound p l big = λ i. place-sound p l i && lt-ltb (getD nodes p noNode .child + 1) (length nodes) (children-listed p l big) i
 
   -- a cut node's box is the smallest if its children's are
   pub cut-refit-smallest : (p : ℕ) → p < nodeCount n → 8 < countAt (partRows nodes) p → Smallest corners rings edges (partRows nodes) (boxRows nodes) (childAt (partRows nodes) p) → Smallest corners rings edges (partRows nodes) (boxRows nodes) (childAt (partRows nodes) p + 1)
@@ -97,7 +110,7 @@ module _ (n : ℕ) (before : List ℤ) (rings : List ℕ) (boxes₀ : List (List
   cut-refit-smallest p l big left right =
       let parts = partRows nodes in
       let inside = listed p l in
-      let asked = cut-asked p l big in
+      let asked = children-listed p l big in
       let x = smallest-rect corners rings edges parts (boxRows nodes) (childAt parts p) left in
       let y = smallest-rect corners rings edges parts (boxRows nodes) (childAt parts p + 1) right in
       ap (λ (rows : List (List ℤ)). getD rows p []) (cut-alike nodes p inside asked) ∙ getD-set-same (boxRows nodes) p (rowOf (cutBox (boxRows nodes) parts p)) [] (omega (arith, box-rows-length nodes))

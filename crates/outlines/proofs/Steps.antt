@@ -15,30 +15,31 @@ use Rattle.rules.specs.Lists.{anyOf, countOf, isOdd, xor}
 use Rattle.rules.specs.Replies.{isNonzero, ringReply, byHole, holesReply, withinOuter, polygonReply, stronger, listReply, treeReply}
 use Rattle.rules.proofs.Flags.{xor-none}
 use Rattle.rules.proofs.FourRays.{odd-suc}
-use Rattle.rings.specs.Places.{isOutside, isInside, isBoundary, flippedBy}
+use Rattle.rings.specs.Places.{isInside, isBoundary, flippedBy}
 
 -- ---- holes
 -- no hole so far decided
 abbrev pub Undecided : List (List Point) → Point → List (List Point) → Type 0
 Undecided holes p later = holesReply holes p ≡ holesReply later p
 
-only-outside : (l : Location) → isOutside l ≡ true → l ≡ Outside
-only-outside Outside e = refl
-only-outside Inside e = absurd (subst T (sym e) tt)
-only-outside OnBoundary e = absurd (subst T (sym e) tt)
+-- a hole that leaves the point inside passes it on
+passes : (l later : Location) → isInside (byHole l Inside) ≡ true → byHole l later ≡ later
+passes Outside later e = refl
+passes Inside later e = absurd (subst T (sym e) tt)
+passes OnBoundary later e = absurd (subst T (sym e) tt)
 
-decides : (l : Location) (later : Location) → isOutside l ≡ false → byHole l later ≡ byHole l Inside
+decides : (l later : Location) → isInside (byHole l Inside) ≡ false → byHole l later ≡ byHole l Inside
 decides Outside later e = absurd (subst T e tt)
 decides Inside later e = refl
 decides OnBoundary later e = refl
 
-pub hole-passed : (holes : List (List Point)) (p : Point) (hole : List Point) (later : List (List Point)) → isOutside (ringReply hole p) ≡ true → Undecided holes p (hole ∷ later) → Undecided holes p later
+pub hole-passed : (holes : List (List Point)) (p : Point) (hole : List Point) (later : List (List Point)) → isInside (byHole (ringReply hole p) Inside) ≡ true → Undecided holes p (hole ∷ later) → Undecided holes p later
 unfolding holesReply
-hole-passed holes p hole later out u = u ∙ ap (λ l. byHole l (holesReply later p)) (only-outside (ringReply hole p) out)
+hole-passed holes p hole later inside u = u ∙ passes (ringReply hole p) (holesReply later p) inside
 
-pub hole-decides : (holes : List (List Point)) (p : Point) (hole : List Point) (later : List (List Point)) → isOutside (ringReply hole p) ≡ false → Undecided holes p (hole ∷ later) → byHole (ringReply hole p) Inside ≡ holesReply holes p
+pub hole-decides : (holes : List (List Point)) (p : Point) (hole : List Point) (later : List (List Point)) → isInside (byHole (ringReply hole p) Inside) ≡ false → Undecided holes p (hole ∷ later) → byHole (ringReply hole p) Inside ≡ holesReply holes p
 unfolding holesReply
-hole-decides holes p hole later out u = sym (u ∙ decides (ringReply hole p) (holesReply later p) out)
+hole-decides holes p hole later decided u = sym (u ∙ decides (ringReply hole p) (holesReply later p) decided)
 
 pub no-hole : (holes : List (List Point)) (p : Point) → Undecided holes p [] → Inside ≡ holesReply holes p
 unfolding holesReply
@@ -140,7 +141,7 @@ pub all-weighed : (polygons : List (List (List Point))) (p : Point) (best : Loca
 unfolding listReply
 all-weighed polygons p best w = sym (w ∙ stronger-none best)
 
-only-inside : (l : Location) → isInside l ≡ true → l ≡ Inside
+pub only-inside : (l : Location) → isInside l ≡ true → l ≡ Inside
 only-inside Outside e = absurd (subst T (sym e) tt)
 only-inside Inside e = refl
 only-inside OnBoundary e = absurd (subst T (sym e) tt)

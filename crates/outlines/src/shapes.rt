@@ -10,38 +10,62 @@ use crate::rows::Form;
 use crate::rows::end_of;
 use crate::rows::end_of_all;
 use geom::Point;
+use plans::corner_at;
+use rings::crossings::crossing_of;
+use rings::crossings::is_on;
+use rings::crossings::wound;
 use rings::places::flipped;
 use rings::places::is_boundary;
 use rings::places::is_inside;
-use rings::places::is_outside;
 use rings::places::odd_place;
 use rings::places::stronger;
 use rings::places::through_hole;
+use rings::ring::closed;
 use rings::ring::ring_reply;
 use rules::Location;
 use rules::Refusal;
 use rules::Reply;
 
-// The holes in order: the first that the point is not outside of decides, and no later one is looked at.
+// The holes in order: the first that the point is not outside of decides, and no later one is looked at. A hole decides at an edge that
+// the point is on, or once all its edges are counted; either leaves both loops by the label.
 fn holes_reply(form: Form, coordinates: &[i64], rings: &[usize], start: usize, p: Point) -> Reply
     requires { ⌜ 2 * start ≤ length (now coordinates) ⌝ }
     ensures { λ r. ⌜ Shown form (length (now (coordinates .entry)) / 2) start (now (rings .entry)) (holesReply (partsFrom form (cornersOf (now (coordinates .entry))) start (now (rings .entry))) p) r ⌝ }
 {
     let limit = coordinates.len() / 2;
+    let mut place = Location::Inside;
     let mut at = start;
     let mut k: usize = 0;
-    while k < rings.len() {
+    'holes: while k < rings.len() {
         let End::At(end) = end_of(form, rings, k, at, limit) else {
             return Reply::Refused(Refusal::Unsound);
         };
-        let location = ring_reply(coordinates, at, end, p);
-        if !is_outside(location) {
-            return Reply::At(through_hole(location));
+        k += 1;
+        if at == end {
+            continue;
+        }
+        let first = corner_at(coordinates, at);
+        let mut a = first;
+        let mut winding: i64 = 0;
+        let mut i = at + 1;
+        while i < end {
+            let b = corner_at(coordinates, i);
+            let crossing = crossing_of(a, b, p);
+            if is_on(crossing) {
+                place = Location::OnBoundary;
+                break 'holes;
+            }
+            winding = wound(winding, crossing);
+            a = b;
+            i += 1;
+        }
+        place = through_hole(closed(winding, crossing_of(a, first, p)));
+        if !is_inside(place) {
+            break 'holes;
         }
         at = end;
-        k += 1;
     }
-    Reply::At(Location::Inside)
+    Reply::At(place)
 }
 
 /// Where p lies in a tree: on any ring's boundary, or else inside exactly if an odd number of rings go round it.

@@ -71,6 +71,14 @@ module _ (n count : ℕ) (corners : List ℤ) (rings : List ℕ) (boxes : List (
 
     pub placed-made : (old : Point) → old ≡ cornerAt corners i → i < 2 ^ 63 → MadeAt n count rings parts edges i place corners boxes corners′ boxes′ old
     placed-made old e h = record {
+      number = refl;
+      enough = record {
+        corners-reach = W .places .corners-reach;
+        rings-reach = W .ways .one .lent .rings-reach;
+        boxes-reach = W .places .boxes-reach;
+        parts-reach = W .ways .one .lent .parts-reach;
+        edges-reach = W .ways .one .lent .edges-reach;
+      };
       one = W .places .one;
       named = h;
       old-is = e;

@@ -5,7 +5,9 @@ use Prim.Native.Nat.{ℕ, _+_, _*_, _^_, _≤_, _<_}
 use lib.IntN.{ℤ}
 use lib.ListN.{length, getD}
 use Rattle.geom.specs.declared.Point.{Point}
+use Rattle.rules.specs.declared.Refusal as Refusal
 use Rattle.rules.specs.Nodes.{nodeCount}
+use Rattle.rules.specs.Numbers.{refusalNumber}
 use Rattle.rules.specs.Plans.{cornerAt}
 use Rattle.index.specs.Parts.{firstAt, countAt}
 use Rattle.index.specs.Sound.{IndexSound}
@@ -17,6 +19,11 @@ use Rattle.placing.specs.Ways.{CorrectionSound}
 use Rattle.placing.specs.declared.Correction.{Correction}
 use Rattle.placing.specs.declared.Correction.the-variants.{Made}
 use Rattle.placing.specs.declared.Correction as Correction
+
+-- 0 for a correction that was made, or the refusal
+abbrev pub correctionNumber : Correction → ℕ
+correctionNumber (Made old) = 0
+correctionNumber Correction.the-variants.Unsound = refusalNumber Refusal.the-variants.Unsound
 
 -- corner i and what is read to refit along two paths are inside their tables
 pub record Placeable (n i : ℕ) (corners : List ℤ) (boxes : List (List ℤ)) (parts : List (List ℕ)) (edges path stops path₂ stops₂ : List ℕ) (depth depth₂ : ℕ) : Type 0 where
@@ -39,9 +46,19 @@ pub record AboveEdges (n : ℕ) (rings : List ℕ) (parts : List (List ℕ)) (ed
   pub to : at < firstAt parts p + countAt parts p
   pub touched : EdgeOf n rings i (getD edges at 0)
 
--- a correction that was made: the corner is one of the n and stands at its new place, its old place is told; where the tables were sound
--- they are so again, and only boxes above the corner's edges changed
+-- no table that a correction is lent is shorter than n corners in `count` rings need
+pub record Enough (n count : ℕ) (corners rings boxes parts edges : ℕ) : Type 0 where
+  pub corners-reach : 2 * n ≤ corners
+  pub rings-reach : count ≤ rings
+  pub boxes-reach : nodeCount n ≤ boxes
+  pub parts-reach : nodeCount n ≤ parts
+  pub edges-reach : n ≤ edges
+
+-- a correction that was made: no table is too short, the corner is one of the n and stands at its new place, its old place is told; where
+-- the tables were sound they are so again, and only boxes above the corner's edges changed
 pub record MadeAt (n count : ℕ) (rings : List ℕ) (parts : List (List ℕ)) (edges : List ℕ) (i : ℕ) (place : Point) (corners : List ℤ) (boxes : List (List ℤ)) (corners′ : List ℤ) (boxes′ : List (List ℤ)) (old : Point) : Type 0 where
+  pub number : correctionNumber (Made old) ≡ 0
+  pub enough : Enough n count (length corners) (length rings) (length boxes) (length parts) (length edges)
   pub one : i < n
   pub named : i < 2 ^ 63
   pub old-is : old ≡ cornerAt corners i
@@ -50,8 +67,9 @@ pub record MadeAt (n count : ℕ) (rings : List ℕ) (parts : List (List ℕ)) (
   pub sound : CorrectionSound n count corners rings boxes parts edges → IndexSound n corners′ rings boxes′ parts edges
   pub rest : CorrectionSound n count corners rings boxes parts edges → (p : ℕ) → (AboveEdges n rings parts edges i p → ⊥) → getD boxes′ p [] ≡ getD boxes p []
 
--- one that was not: nothing is written, and no sound tables with such a corner get it
+-- one that was not, 15: nothing is written, and no sound tables with such a corner get it
 pub record Unmade (n count : ℕ) (rings : List ℕ) (parts : List (List ℕ)) (edges : List ℕ) (i : ℕ) (corners : List ℤ) (boxes : List (List ℤ)) (corners′ : List ℤ) (boxes′ : List (List ℤ)) : Type 0 where
+  pub number : correctionNumber Correction.the-variants.Unsound ≡ 15
   pub corners-same : corners′ ≡ corners
   pub boxes-same : boxes′ ≡ boxes
   pub never : CorrectionSound n count corners rings boxes parts edges → i < n → ⊥

@@ -1,3 +1,4 @@
 pub mod Sums
 pub mod Searches
 pub mod Ranges
+mod Caught

@@ -5,7 +5,7 @@ ghost use Prim.Native.Nat.{_+_, _*_, _<_};
 ghost use lib.Dec.{eqb};
 ghost use lib.ListN.{length};
 ghost use Rattle.rules.specs.Lists.{anyOf, total};
-ghost use Rattle.rules.specs.Plans.{cornersOf, cornerAt, isList, tooMany, uneven, planVerdict, allInRange};
+ghost use Rattle.rules.specs.Plans.{cornersOf, cornerAt, isList, tooMany, uneven, Judged, allInRange};
 use geom::Point;
 use rules::Kind;
 use rules::Refusal;
@@ -112,7 +112,7 @@ fn uneven(kind: Kind, coordinates: &[i64], lengths: &[usize], counts: &[usize]) 
 /// not sum to the corners or, for a list, where the counts do not sum to the rings or a polygon has no rings. A tree's counts are not
 /// looked at.
 pub fn judge(kind: Kind, coordinates: &[i64], lengths: &[usize], counts: &[usize]) -> Verdict
-    ensures { λ r. ⌜ r ≡ planVerdict (record { kind = kind; coordinates = now (coordinates .entry); lengths = now (lengths .entry); counts = now (counts .entry) }) ⌝ }
+    ensures { λ r. ⌜ Judged (record { kind = kind; coordinates = now (coordinates .entry); lengths = now (lengths .entry); counts = now (counts .entry) }) r ⌝ }
 {
     if too_many(kind, coordinates, lengths, counts) {
         return Verdict::Refused(Refusal::TooMany);

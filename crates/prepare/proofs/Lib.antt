@@ -1,4 +1,5 @@
 pub mod Rooms
+pub mod Numbers
 pub mod Filling
 pub mod Holding
 pub mod Indexing

@@ -1,7 +1,7 @@
 -- What preparing a plan answers (document 01, items 5 and 6, refusals 4, 3 and 11).
 use mathlib.Core.Bool.{not, cond, _||_}
 use Prim.Native.Nat.{ℕ, _*_}
-use lib.Dec.{ltb}
+use lib.Dec.{eqb, ltb}
 use lib.ListN.{length}
 use Rattle.rules.specs.declared.Refusal.the-variants.{TableTooShort}
 use Rattle.rules.specs.declared.State.{State}
@@ -10,7 +10,7 @@ use Rattle.rules.specs.declared.Verdict as Verdict
 use Rattle.rules.specs.declared.Verdict.{Verdict}
 use Rattle.rules.specs.Nodes.{nodeCount}
 use Rattle.rules.specs.Numbers.{refusalNumber, refusalDetail}
-use Rattle.rules.specs.Plans.{Plan, cornerCount, planVerdict, planInRange}
+use Rattle.rules.specs.Plans.{Plan, cornerCount, tooMany, uneven, planVerdict, planInRange}
 use Rattle.rules.specs.Tables.{polygonsIn}
 use Rattle.prepare.specs.declared.Preparing.{Preparing}
 use Rattle.prepare.specs.declared.Preparing.the-variants.{Ready, Refused}
@@ -61,3 +61,30 @@ judged (Verdict.the-variants.Refused refusal) other = Refused refusal
 -- "plan 4, 3, 11"
 unfoldable pub preparing : Plan → Room → Preparing
 preparing plan room = judged (planVerdict plan) (withRoom (stateOf plan) room)
+
+-- ---- the same in numbers
+
+-- 11's table: nodes (4), then edges (5); 0 where both have room
+unfoldable pub shortIndex : State → Room → ℕ
+shortIndex state room =
+    cond (ltb (room .boxes) (nodeCount (state .corners)) || ltb (room .parts) (nodeCount (state .corners))) 4
+    (cond (ltb (room .edges) (state .corners)) 5 0)
+
+-- 11's table, the first of corners (1), rings (2), polygons (3), nodes, edges that is too short; 0 where none is
+unfoldable pub shortTable : State → Room → ℕ
+shortTable state room =
+    cond (ltb (room .corners) (2 * state .corners)) 1
+    (cond (ltb (room .rings) (state .rings)) 2
+    (cond (ltb (room .polygons) (state .polygons)) 3
+    (cond (state .«out_of_range») 0 (shortIndex state room))))
+
+-- the nodes that are reported: N(n), and 0 of a marked plan
+abbrev pub nodesReported : State → ℕ
+nodesReported state = cond (state .«out_of_range») 0 (nodeCount (state .corners))
+
+-- 4, then 3, then 11, else 0; with 11's table, or the nodes
+unfoldable pub numberDue : Plan → Room → ℕ
+numberDue plan room = cond (tooMany plan) 4 (cond (uneven plan) 3 (cond (eqb (shortTable (stateOf plan) room) 0) 0 11))
+
+unfoldable pub detailDue : Plan → Room → ℕ
+detailDue plan room = cond (tooMany plan) 0 (cond (uneven plan) 0 (cond (eqb (shortTable (stateOf plan) room) 0) (nodesReported (stateOf plan)) (shortTable (stateOf plan) room)))

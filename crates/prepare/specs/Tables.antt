@@ -17,7 +17,7 @@ use Rattle.index.specs.Build.{Built}
 use Rattle.prepare.specs.declared.Preparing.{Preparing}
 use Rattle.prepare.specs.declared.Preparing.the-variants.{Ready, Refused}
 use Rattle.prepare.specs.declared.Room.{Room}
-use Rattle.prepare.specs.Answers.{stateOf, preparing}
+use Rattle.prepare.specs.Answers.{preparingNumber, preparingDetail, stateOf, preparing, numberDue, detailDue}
 
 -- the lent tables of a prepared plan
 pub record Tables : Type 0 where
@@ -78,6 +78,8 @@ Left plan before after (Refused refusal) = after ≡ before
 -- answer and tables of `prepare`
 pub record Prepared (plan : Plan) (before after : Tables) (r : Preparing) : Type 0 where
   pub answer : r ≡ preparing plan (roomOf before)
+  pub number : preparingNumber r ≡ numberDue plan (roomOf before)
+  pub detail : preparingDetail r ≡ detailDue plan (roomOf before)
   pub tables : Left plan before after r
 
 -- ---- what the steps ask

@@ -8,7 +8,7 @@ use native.Mathlib.Decide.{decLt}
 use native.Mathlib.Numerals.{add-one}
 use native.Mathlib.Omega.{arith}
 use borrow.Author.Tests.{lt-ltb, le-ltb, eq-eqb, ne-eqb}
-use lib.Dec.{T}
+use lib.Dec.{T, ltb}
 use lib.IntN.{ℤ}
 use lib.ListN.{length, drop, getD}
 use lib.Seq.{drop-nil}
@@ -24,6 +24,8 @@ use Rattle.rules.specs.declared.State.{State}
 use Rattle.rules.specs.declared.Verdict.{Verdict}
 use Rattle.rules.specs.declared.Verdict.the-variants.{Accepted}
 use Rattle.rules.specs.declared.Verdict as Verdict
+use Rattle.rules.specs.Lists.{isOdd}
+use Rattle.rules.specs.Numbers.{refusalNumber, verdictNumber}
 use Rattle.rules.specs.Plans.{cornersOf, cornerAt, planReply}
 use Rattle.rules.specs.Tables.{planOf}
 use Rattle.rules.proofs.Corners.{corners-cons, corners-length}
@@ -35,7 +37,7 @@ use Rattle.gather.specs.Regions.{Enough, LookSound}
 use Rattle.query.proofs.LookUps.{far}
 use Rattle.outlines.proofs.Steps.{at-refused}
 use Rattle.prepared.specs.Calls.{Looked}
-use Rattle.prepared.specs.Firsts.{pointsVerdict, firstFrom, firstOf, FirstSays}
+use Rattle.prepared.specs.Firsts.{pointsVerdict, PointsJudged, firstFrom, firstOf, FirstSays}
 use Rattle.prepared.proofs.Lookings.{clash}
 
 -- ---- the answers are apart
@@ -145,6 +147,15 @@ pub verdict-good : (points : List ℤ) → length points / 2 ≤ 65536 → (leng
 unfolding pointsVerdict
 verdict-good points h e = rw (le-ltb 65536 (length points / 2) h, ne-eqb (length points % 2) 1 e) refl
 
+pub points-judged : (points : List ℤ) (r : Verdict) → r ≡ pointsVerdict points → PointsJudged points r
+unfolding pointsVerdict
+points-judged points r e = record { verdict = e; number = ap verdictNumber e ∙ go (ltb 65536 (length points / 2)) (isOdd (length points)) }
+  where
+    go : (many odd : Bool) → verdictNumber (cond many (Verdict.the-variants.Refused TooMany) (cond odd (Verdict.the-variants.Refused Uneven) Accepted)) ≡ cond many 4 (cond odd 3 0)
+    go true odd = refl
+    go false true = refl
+    go false false = refl
+
 isAccepted : Verdict → Bool
 isAccepted Accepted = true
 isAccepted (Verdict.the-variants.Refused refusal) = false
@@ -159,6 +170,25 @@ accepted-few points v = go (decLt 65536 (length points / 2))
     go : Dec (65536 < length points / 2) → length points / 2 ≤ 65536
     go (yes h) = absurd (accepted-refused TooMany (sym v ∙ sym (verdict-many points h)))
     go (no h) = let n : ¬ (65536 < length points / 2) = h in omega arith
+
+-- the number of a list that is accepted, and of one that is refused
+accepted-number : (points : List ℤ) → pointsVerdict points ≡ Accepted → (x : ℕ) → cond (ltb 65536 (length points / 2)) 4 (cond (isOdd (length points)) 3 x) ≡ x
+unfolding pointsVerdict
+accepted-number points v x = go (ltb 65536 (length points / 2)) (isOdd (length points)) v
+  where
+    go : (many odd : Bool) → cond many (Verdict.the-variants.Refused TooMany) (cond odd (Verdict.the-variants.Refused Uneven) Accepted) ≡ Accepted → cond many 4 (cond odd 3 x) ≡ x
+    go true odd e = absurd (accepted-refused TooMany (sym e))
+    go false true e = absurd (accepted-refused Uneven (sym e))
+    go false false e = refl
+
+refused-number : (points : List ℤ) (refusal : Refusal) → pointsVerdict points ≡ Verdict.the-variants.Refused refusal → (x : ℕ) → refusalNumber refusal ≡ cond (ltb 65536 (length points / 2)) 4 (cond (isOdd (length points)) 3 x)
+unfolding pointsVerdict
+refused-number points refusal v x = go (ltb 65536 (length points / 2)) (isOdd (length points)) v
+  where
+    go : (many odd : Bool) → cond many (Verdict.the-variants.Refused TooMany) (cond odd (Verdict.the-variants.Refused Uneven) Accepted) ≡ Verdict.the-variants.Refused refusal → refusalNumber refusal ≡ cond many 4 (cond odd 3 x)
+    go true odd e = sym (ap verdictNumber e)
+    go false true e = sym (ap verdictNumber e)
+    go false false e = absurd (accepted-refused refusal e)
 
 refusalIn : First → Refusal
 refusalIn (At k) = Unsound
@@ -255,6 +285,7 @@ module _ (state : State) (corners : List ℤ) (rings polygons : List ℕ) (boxes
     says-none h = record {
       judged = λ f e. not-judged f AllOutside e;
       alone = λ f e. absurd (none-not f e);
+      number = sym (accepted-number points (going .accepted) 0);
       inside = λ j e. absurd (at-none j (sym e));
       marked = λ v m. refl;
       beyond = λ v f. refl;
@@ -289,6 +320,7 @@ module _ (state : State) (corners : List ℤ) (rings polygons : List ℕ) (boxes
           record {
             judged = λ f e. not-judged f (At k) e;
             alone = λ f e. absurd (at-not k f e);
+            number = sym (accepted-number points (going .accepted) 0);
             inside = λ j e. (
               subst (λ (i : ℕ). i < length points / 2) (same-place k j e) h,
               subst (λ (i : ℕ). inRange (cornerAt points i) ≡ true) (same-place k j e) (sym (ap inRange is) ∙ near),
@@ -303,6 +335,7 @@ module _ (state : State) (corners : List ℤ) (rings polygons : List ℕ) (boxes
       says-unsound p is refusal looked = record {
         judged = λ f e. not-judged f (Refused Unsound) e;
         alone = λ f e. inr (sym (same-refusal Unsound f e));
+        number = sym (accepted-number points (going .accepted) 15);
         inside = λ j e. absurd (at-not j Unsound (sym e));
         marked = λ v m. absurd (at-refused Outside refusal (sym (looked .early (inl m))));
         beyond = λ v f. not-beyond p is near (Refused Unsound) f;
@@ -318,6 +351,7 @@ module _ (state : State) (corners : List ℤ) (rings polygons : List ℕ) (boxes
   says-judged refusal e = record {
     judged = λ f v. ap Refused (sym (sameVerdict refusal f (sym e ∙ v)));
     alone = λ f v. inl (e ∙ ap Verdict.the-variants.Refused (same-refusal refusal f v));
+    number = refused-number points refusal e 15;
     inside = λ j v. absurd (at-not j refusal (sym v));
     marked = λ v m. absurd (accepted-refused refusal (sym v ∙ e));
     beyond = λ v f. absurd (accepted-refused refusal (sym v ∙ e));

@@ -1,6 +1,5 @@
 // The first point of a list that is not outside (document 01, item 8; `first_not_outside` of src/query.rs).
-ghost use mathlib.Core.Path.{_≡_};
-ghost use Rattle.prepared.specs.Firsts.{pointsVerdict, FirstSays};
+ghost use Rattle.prepared.specs.Firsts.{PointsJudged, FirstSays};
 use crate::locate::locate;
 use plans::corner_at;
 use rings::places::is_outside;
@@ -22,9 +21,10 @@ pub enum First {
     Refused(Refusal),
 }
 
-// Refusals 4 and 3 of a list of points x, y, x, y, ..
-fn judge_points(points: &[i64]) -> Verdict
-    ensures { λ r. ⌜ r ≡ pointsVerdict (now (points .entry)) ⌝ }
+/// Refusals 4 and 3 of a list of points x, y, x, y, .., or that it is accepted: 4 (`TooMany`) where there are more than 65,536 points, an odd list
+/// counted as half its length, rounded down; else 3 (`Uneven`) where a y is missing.
+pub fn judge_points(points: &[i64]) -> Verdict
+    ensures { λ r. ⌜ PointsJudged (now (points .entry)) r ⌝ }
 {
     if MAX_POINTS < points.len() / 2 {
         return Verdict::Refused(Refusal::TooMany);

@@ -1,5 +1,5 @@
 -- The corners at which the edges of a leaf end, one edge after another, and with them the way to a place. Assumes nothing.
-use mathlib.Core.Path.{_≡_, sym, ap, _∙_, subst}
+use mathlib.Core.Path.{_≡_, refl, sym, ap, _∙_, subst}
 use mathlib.Core.List.{List}
 use Prim.Native.Nat.{ℕ, _+_, _-_, _≤_, _<_}
 use native.Mathlib.Decide.{ℕ-discrete}
@@ -11,9 +11,11 @@ use Rattle.boxes.specs.Rings.{startOf, nextIn, nextCorner, RingAt, RingEnds}
 use Rattle.boxes.specs.Boxes.{Names}
 use Rattle.boxes.proofs.Rings.{start-pred, searchable, next-of-ring, next-inside}
 use Rattle.rules.specs.Nodes.{nodeCount}
+use Rattle.index.specs.Build.{KeptFrom}
 use Rattle.index.specs.Parts.{firstAt, countAt}
 use Rattle.index.proofs.Soundness.{part-names}
-use Rattle.refit.specs.Paths.{PathTo, Stops, RefitSound, Lent, Found}
+use Rattle.index.proofs.Tables.{kept-all}
+use Rattle.refit.specs.Paths.{PathTo, Stops, RefitSound, Lent, Found, WayRefused}
 
 module _ (n count : ℕ) (rings edges : List ℕ) (f : ℕ) where
   pub stops-none : (stops : List ℕ) → Stops n count rings edges f 0 stops
@@ -54,9 +56,13 @@ module _ (n count : ℕ) (rings edges : List ℕ) (f : ℕ) where
   edge-outside m j l out R N = omega (arith, N .each (f + j) (omega arith) (omega arith))
 
 -- ---- the way to a place
+pub way-refused : (n count : ℕ) (rings : List ℕ) (parts : List (List ℕ)) (edges : List ℕ) (k : ℕ) (path stops path′ stops′ : List ℕ) → Lent n count k (length path) (length stops) rings (length parts) (length edges) → KeptFrom 18 path path′ → KeptFrom 8 stops stops′
+    → ((corners : List ℤ) (boxes : List (List ℤ)) → RefitSound n count corners rings boxes parts edges → ⊥) → WayRefused n count rings parts edges k path stops path′ stops′
+way-refused n count rings parts edges k path stops path′ stops′ L K J f = record { number = refl; never = λ room space place. f; path-space = K; stops-space = J; unlent = λ g. absurd (g L) }
+
 module _ (n count : ℕ) (rings : List ℕ) (parts : List (List ℕ)) (edges : List ℕ) (k : ℕ) where
   -- sound tables are long enough
-  pub sound-lent : (path stops : ℕ) → 18 ≤ path → 8 ≤ stops → k < n → (corners : List ℤ) (boxes : List (List ℤ)) → RefitSound n count corners rings boxes parts edges → Lent n count k path stops rings (length parts) (length edges)
+  sound-lent : (path stops : ℕ) → 18 ≤ path → 8 ≤ stops → k < n → (corners : List ℤ) (boxes : List (List ℤ)) → RefitSound n count corners rings boxes parts edges → Lent n count k path stops rings (length parts) (length edges)
   sound-lent path stops room space place corners boxes T =
       let asks = searchable n count rings (T .ends) k place in
       record {
@@ -70,10 +76,20 @@ module _ (n count : ℕ) (rings : List ℕ) (parts : List (List ℕ)) (edges : L
         place = place;
       }
 
+  pub way-unlent : (path stops : List ℕ) → (Lent n count k (length path) (length stops) rings (length parts) (length edges) → ⊥) → WayRefused n count rings parts edges k path stops path stops
+  way-unlent path stops f = record {
+    number = refl;
+    never = λ room space place corners boxes T. f (sound-lent (length path) (length stops) room space place corners boxes T);
+    path-space = kept-all 18 path;
+    stops-space = kept-all 8 stops;
+    unlent = λ g. (refl, refl);
+  }
+
   -- a path, and where the edges of its leaf end, make the way
   pub way-found : (path stops : List ℕ) (depth nodes : ℕ) → Lent n count k (length path) (length stops) rings (length parts) (length edges) → nodes ≡ nodeCount n → PathTo n parts nodes k path depth
       → Stops n count rings edges (firstAt parts (getD path (depth - 1) 0)) (countAt parts (getD path (depth - 1) 0)) stops → Found n count rings parts edges k path stops depth
   way-found path stops depth nodes L all P T = record {
+    number = refl;
     place = L .place;
     lent = L;
     fine = record {

@@ -10,6 +10,7 @@ use Rattle.rules.specs.Nodes.{nodeCount}
 use Rattle.rules.specs.Numbers.{refusalNumber}
 use Rattle.boxes.specs.Boxes.{Names}
 use Rattle.boxes.specs.Rings.{nextCorner, RingEnds}
+use Rattle.index.specs.Build.{KeptFrom}
 use Rattle.index.specs.Parts.{firstAt, countAt, childAt}
 use Rattle.index.specs.Sound.{IndexSound}
 use Rattle.refit.specs.declared.Step.{Step}
@@ -131,13 +132,28 @@ pub record Fine (n : ℕ) (parts : List (List ℕ)) (edges path stops : List ℕ
 
 -- the way to place k: its path, and where the edges of its leaf end. Whatever is too short for the state has no way
 pub record Found (n count : ℕ) (rings : List ℕ) (parts : List (List ℕ)) (edges : List ℕ) (k : ℕ) (path stops : List ℕ) (depth : ℕ) : Type 0 where
+  pub number : wayNumber (At depth) ≡ 0
   pub place : k < n
   pub lent : Lent n count k (length path) (length stops) rings (length parts) (length edges)
   pub fine : Fine n parts edges path stops depth
   pub path-to : PathTo n parts (nodeCount n) k path depth
   pub stops-are : Stops n count rings edges (firstAt parts (getD path (depth - 1) 0)) (countAt parts (getD path (depth - 1) 0)) stops
 
-abbrev pub WaySays : ℕ → ℕ → List ℕ → List (List ℕ) → List ℕ → ℕ → List ℕ → List ℕ → Way → Type 0
-WaySays n count rings parts edges k path stops (At depth) = Found n count rings parts edges k path stops depth
-WaySays n count rings parts edges k path stops Way.the-variants.Unsound =
-    18 ≤ length path → 8 ≤ length stops → k < n → (corners : List ℤ) (boxes : List (List ℤ)) → RefitSound n count corners rings boxes parts edges → ⊥
+-- the way found, in what was lent as working space: of the path only the first 18 numbers may have changed, and of the stops the first 8
+pub record WayFound (n count : ℕ) (rings : List ℕ) (parts : List (List ℕ)) (edges : List ℕ) (k : ℕ) (path stops path′ stops′ : List ℕ) (depth : ℕ) : Type 0 where
+  pub found : Found n count rings parts edges k path′ stops′ depth
+  pub path-space : KeptFrom 18 path path′
+  pub stops-space : KeptFrom 8 stops stops′
+
+-- 15: never on sound tables that have a place k, with room. Path and stops are working space, of which only the first 18 and the first 8
+-- numbers may have changed, and none where a table or one of the two is too short
+pub record WayRefused (n count : ℕ) (rings : List ℕ) (parts : List (List ℕ)) (edges : List ℕ) (k : ℕ) (path stops path′ stops′ : List ℕ) : Type 0 where
+  pub number : wayNumber Way.the-variants.Unsound ≡ 15
+  pub never : 18 ≤ length path → 8 ≤ length stops → k < n → (corners : List ℤ) (boxes : List (List ℤ)) → RefitSound n count corners rings boxes parts edges → ⊥
+  pub path-space : KeptFrom 18 path path′
+  pub stops-space : KeptFrom 8 stops stops′
+  pub unlent : (Lent n count k (length path) (length stops) rings (length parts) (length edges) → ⊥) → (path′ ≡ path) × (stops′ ≡ stops)
+
+abbrev pub WaySays : ℕ → ℕ → List ℕ → List (List ℕ) → List ℕ → ℕ → List ℕ → List ℕ → List ℕ → List ℕ → Way → Type 0
+WaySays n count rings parts edges k path stops path′ stops′ (At depth) = WayFound n count rings parts edges k path stops path′ stops′ depth
+WaySays n count rings parts edges k path stops path′ stops′ Way.the-variants.Unsound = WayRefused n count rings parts edges k path stops path′ stops′

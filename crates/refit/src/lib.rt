@@ -5,6 +5,7 @@ ghost use Prim.Native.Nat.{_+_, _-_, _*_, _<_, _≤_};
 ghost use lib.ListN.{length, getD, set};
 ghost use Rattle.rules.specs.Nodes.{nodeCount};
 ghost use Rattle.boxes.specs.Boxes.{rowOf};
+ghost use Rattle.index.specs.Build.{KeptFrom};
 ghost use Rattle.index.specs.Parts.{firstAt, countAt, childAt};
 ghost use Rattle.refit.specs.Paths.{Whether, StepSays, PathSays, StopsSay, Lent, Spans, Fine, WaySays};
 ghost use Rattle.refit.specs.Refits.{spanOf, leafBox, cutBox, leafFitted, Refit};
@@ -73,6 +74,7 @@ fn path_to(path: &mut [usize], parts: &[[usize; 3]], n: usize, nodes: usize, k: 
     requires { ⌜ (18 ≤ length (now path)) × (nodes ≤ length (now parts)) ⌝ }
     requires { ⌜ (nodes ≡ nodeCount n) × (k < n) ⌝ }
     ensures { λ r. ⌜ PathSays n (now (parts .entry)) nodes k (now (path .exit)) r ⌝ }
+    ensures { λ _. ⌜ KeptFrom 18 (now (path .entry)) (now (path .exit)) ⌝ }
 {
     path[0] = 0;
     let mut depth: usize = 1;
@@ -111,6 +113,7 @@ fn put_stops(
     requires { ⌜ (0 < count) × (count ≤ length (now rings)) × (getD (now rings) (count - 1) 0 ≡ n) ⌝ }
     requires { ⌜ (first + size ≤ length (now edges)) × (size ≤ length (now stops)) ⌝ }
     ensures { λ r. ⌜ StopsSay n count (now (rings .entry)) (now (edges .entry)) first size (now (stops .exit)) r ⌝ }
+    ensures { λ _. ⌜ KeptFrom size (now (stops .entry)) (now (stops .exit)) ⌝ }
 {
     let mut ring: usize = 0;
     let mut j: usize = 0;
@@ -174,7 +177,8 @@ fn lent_enough(
 ///
 /// Refused with 15 (`Unsound`) where a number leads outside its table, the path would have more than 18 nodes, there is no place k, the
 /// last ring does not end at the last corner, or a table is too short: never on sound tables that have a place k, if there is room. A
-/// `path` of less than 18 nodes or `stops` of less than 8 corners get 15 on sound tables too.
+/// `path` of less than 18 nodes or `stops` of less than 8 corners get 15 on sound tables too. Both are the caller's working space: at most
+/// the first 18 and the first 8 numbers of them change, and none where a table or one of the two is too short.
 pub fn find_way(
     path: &mut [usize],
     stops: &mut [usize],
@@ -185,7 +189,7 @@ pub fn find_way(
     count: usize,
     k: usize,
 ) -> Way
-    ensures { λ r. ⌜ WaySays n count (now (rings .entry)) (now (parts .entry)) (now (edges .entry)) k (now (path .exit)) (now (stops .exit)) r ⌝ }
+    ensures { λ r. ⌜ WaySays n count (now (rings .entry)) (now (parts .entry)) (now (edges .entry)) k (now (path .entry)) (now (stops .entry)) (now (path .exit)) (now (stops .exit)) r ⌝ }
 {
     if !lent_enough(path.len(), stops.len(), rings, parts, edges, n, count, k) {
         return Way::Unsound;

@@ -3,17 +3,19 @@ use mathlib.Core.Path.{_≡_}
 use mathlib.Core.Bool.{true, false, cond}
 use mathlib.Core.List.{List, [], _++_, map}
 use Prim.Native.Nat.{ℕ}
-use lib.Dec.{ltb}
+use lib.Dec.{eqb, ltb}
 use lib.IntN.{ℤ}
 use lib.ListN.{length, drop}
 use Rattle.rules.specs.declared.State.{State}
-use Rattle.rules.specs.Numbers.{refusalNumber}
-use Rattle.rules.specs.Plans.{Plan, planInRange}
+use Rattle.rules.specs.declared.Verdict as Verdict
+use Rattle.rules.specs.declared.Verdict.{Verdict}
+use Rattle.rules.specs.Numbers.{refusalNumber, refusalDetail}
+use Rattle.rules.specs.Plans.{Plan, tooMany, uneven, planVerdict, planInRange}
 use Rattle.prepare.specs.declared.Preparing.{Preparing}
 use Rattle.prepare.specs.declared.Preparing as Preparing
 use Rattle.prepare.specs.declared.Preparing.the-variants.{Ready}
 use Rattle.prepare.specs.declared.Room.{Room}
-use Rattle.prepare.specs.Answers.{preparing, stateOf}
+use Rattle.prepare.specs.Answers.{preparing, stateOf, shortTable}
 use Rattle.prepare.specs.Tables as Preparing-tables
 use Rattle.prepare.specs.Tables.{Tables, roomOf}
 use Rattle.model.specs.Coded.{callOf}
@@ -67,20 +69,38 @@ given state t undo = preparedOf state (t .corners) (t .rings) (t .polygons) (t .
 abbrev pub endState : Plan → ℕ → List (List ℤ) → State
 endState plan lent calls = cond (planInRange plan) (atDepth (stateOf plan) (length (modelAfter plan lent (map callOf calls) .stack))) (stateOf plan)
 
--- what is answered once the plan is judged
+-- 4 and 3 of the plan come first
+abbrev pub refusedOr : Verdict → Outcome → Outcome
+refusedOr Verdict.the-variants.Accepted other = other
+refusedOr (Verdict.the-variants.Refused refusal) other = Refused refusal
+
+-- what is answered by what preparing answers
 abbrev pub judged : Preparing → State → Outcome
 judged (Ready state nodes) end = Ran end
 judged (Preparing.the-variants.Refused refusal) end = Refused refusal
 
--- 11 where the answer table has fewer places than there are calls; else what preparing refuses; else the state at the end
+-- 4, then 3; 11 where the answer table has fewer places than there are calls; 11 of a table that preparing needs; else the state at the end
 unfoldable pub replaying : Plan → Room → ℕ → List (List ℤ) → ℕ → Outcome
-replaying plan room lent calls answers = cond (ltb answers (length calls)) AnswersTooShort (judged (preparing plan room) (endState plan lent calls))
+replaying plan room lent calls answers = refusedOr (planVerdict plan) (cond (ltb answers (length calls)) AnswersTooShort (judged (preparing plan room) (endState plan lent calls)))
 
 -- 0 where the calls were run, or the refusal's number
 abbrev pub replayNumber : Outcome → ℕ
 replayNumber (Ran state) = 0
 replayNumber (Refused refusal) = refusalNumber refusal
 replayNumber AnswersTooShort = 11
+
+-- the table that preparing's 11 names; the answer table is none of document 01's, and has no number among them
+abbrev pub replayDetail : Outcome → ℕ
+replayDetail (Ran state) = 0
+replayDetail (Refused refusal) = refusalDetail refusal
+replayDetail AnswersTooShort = 0
+
+-- both by their conditions, in this order: 4, 3, the answer table's 11, 11 with its table, 0
+unfoldable pub numberDue : Plan → Room → List (List ℤ) → ℕ → ℕ
+numberDue plan room calls answers = cond (tooMany plan) 4 (cond (uneven plan) 3 (cond (ltb answers (length calls)) 11 (cond (eqb (shortTable (stateOf plan) room) 0) 0 11)))
+
+unfoldable pub detailDue : Plan → Room → List (List ℤ) → ℕ → ℕ
+detailDue plan room calls answers = cond (tooMany plan) 0 (cond (uneven plan) 0 (cond (ltb answers (length calls)) 0 (shortTable (stateOf plan) room)))
 
 -- the plan was prepared, which left these tables, and the calls were run on them
 pub record Ended (plan : Plan) (before after : Lent) (calls : List (List ℤ)) (state : State) : Type 0 where
@@ -99,4 +119,6 @@ Left plan before after calls AnswersTooShort = after ≡ before
 -- answer and tables of `replay`
 pub record Replays (plan : Plan) (before after : Lent) (calls : List (List ℤ)) (r : Outcome) : Type 0 where
   pub answer : r ≡ replaying plan (roomOf (before .tables)) (length (before .undo)) calls (length (before .answers))
+  pub number : replayNumber r ≡ numberDue plan (roomOf (before .tables)) calls (length (before .answers))
+  pub detail : replayDetail r ≡ detailDue plan (roomOf (before .tables)) calls (length (before .answers))
   pub tables : Left plan before after calls r

@@ -5,11 +5,13 @@ ghost use Rattle.replay.specs.Replays.{Replays};
 pub mod calls;
 
 use calls::run_calls;
+use plans::judge;
 use prepare::Preparing;
 use prepare::prepare;
 use rules::Kind;
 use rules::Refusal;
 use rules::State;
+use rules::Verdict;
 
 /// What a replay answers.
 pub enum Outcome {
@@ -27,7 +29,8 @@ pub enum Outcome {
 /// number looks a point of the half-grid up. Call k's answer goes to place k of the answer table: 0 outside, 1 inside, 2 on the boundary,
 /// 3 accepted, or minus the refusal number. Places after the last call stay as they were.
 ///
-/// Refused with 11 (`AnswersTooShort`) where the answer table is too short, else as `prepare` is; then nothing lent is written.
+/// Refused, in this order, with the plan's 4 or 3, with 11 (`AnswersTooShort`) where the answer table is too short, and with 11 and its table
+/// as `prepare` is; then nothing lent is written.
 pub fn replay(
     kind: Kind,
     coordinates: &[i64],
@@ -45,6 +48,9 @@ pub fn replay(
 ) -> Outcome
     ensures { λ r. ⌜ Replays (record { kind = kind; coordinates = now (coordinates .entry); lengths = now (lengths .entry); counts = now (counts .entry) }) (record { tables = record { corners = now (corners .entry); rings = now (rings .entry); polygons = now (polygons .entry); boxes = now (boxes .entry); parts = now (parts .entry); edges = now (edges .entry) }; undo = now (undo .entry); answers = now (answers .entry) }) (record { tables = record { corners = now (corners .exit); rings = now (rings .exit); polygons = now (polygons .exit); boxes = now (boxes .exit); parts = now (parts .exit); edges = now (edges .exit) }; undo = now (undo .exit); answers = now (answers .exit) }) (now (calls .entry)) r ⌝ }
 {
+    if let Verdict::Refused(refusal) = judge(kind, coordinates, lengths, counts) {
+        return Outcome::Refused(refusal);
+    }
     if answers.len() < calls.len() {
         return Outcome::AnswersTooShort;
     }

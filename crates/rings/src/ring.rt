@@ -16,8 +16,8 @@ use geom::Point;
 use plans::corner_at;
 use rules::Location;
 
-// The reply once the closing edge is counted too.
-fn closed(winding: i64, last: Crossing) -> Location
+/// The reply once the closing edge is counted too, given the winding number of the others.
+pub fn closed(winding: i64, last: Crossing) -> Location
     requires { ⌜ natAbs winding + 1 < 2 ^ 63 ⌝ }
     ensures { λ r. ⌜ r ≡ closedReply winding last ⌝ }
 {

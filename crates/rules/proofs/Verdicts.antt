@@ -12,7 +12,7 @@ use Rattle.rules.specs.declared.Verdict.{Verdict}
 use Rattle.rules.specs.declared.Verdict.the-variants.{Accepted, Refused}
 use Rattle.rules.specs.Lists.{total, isOdd}
 use Rattle.rules.specs.Numbers.{verdictNumber}
-use Rattle.rules.specs.Plans.{Plan, cornerCount, isList, tooMany, uneven, planVerdict}
+use Rattle.rules.specs.Plans.{Plan, cornerCount, isList, tooMany, uneven, planVerdict, Judged}
 
 pub verdict-at : (plan : Plan) (many odd : Bool) → tooMany plan ≡ many → uneven plan ≡ odd → planVerdict plan ≡ cond many (Refused TooMany) (cond odd (Refused Uneven) Accepted)
 unfolding planVerdict
@@ -82,6 +82,9 @@ numbers plan = go (tooMany plan) (uneven plan)
     go true odd = refl
     go false true = refl
     go false false = refl
+
+pub judged : (plan : Plan) (r : Verdict) → r ≡ planVerdict plan → Judged plan r
+judged plan r e = record { verdict = e; number = ap verdictNumber e ∙ numbers plan }
 
 -- ---- 3: what is accepted sums up
 pub record Even (plan : Plan) : Type 0 where

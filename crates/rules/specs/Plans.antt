@@ -1,4 +1,5 @@
 -- A plan, its refusals 4 and 3, and its replies under the range rule (document 01, items 4, 6 and 7, "From the input").
+use mathlib.Core.Path.{_≡_}
 use mathlib.Core.Bool.{Bool, true, false, not, cond, _&&_, _||_}
 use mathlib.Core.List.{List, [], _∷_}
 use Prim.Native.Nat.{ℕ, _+_, _*_, _/_}
@@ -18,6 +19,7 @@ use Rattle.rules.specs.declared.Reply as Reply
 use Rattle.rules.specs.declared.Verdict.{Verdict}
 use Rattle.rules.specs.declared.Verdict.the-variants.{Accepted, Refused}
 use Rattle.rules.specs.Lists.{anyOf, total, isOdd, partsOf}
+use Rattle.rules.specs.Numbers.{verdictNumber}
 use Rattle.rules.specs.Replies.{listReply, treeReply, halfReply}
 
 -- a plan as it is handed in: coordinates x, y, x, y, .., the length of each ring, and how many rings each polygon has
@@ -73,6 +75,11 @@ uneven plan =
 -- 4 is tested before 3
 unfoldable pub planVerdict : Plan → Verdict
 planVerdict plan = cond (tooMany plan) (Refused TooMany) (cond (uneven plan) (Refused Uneven) Accepted)
+
+-- the verdict, and its number by the same conditions
+pub record Judged (plan : Plan) (r : Verdict) : Type 0 where
+  pub verdict : r ≡ planVerdict plan
+  pub number : verdictNumber r ≡ cond (tooMany plan) 4 (cond (uneven plan) 3 0)
 
 -- ---- the replies
 

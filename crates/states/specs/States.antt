@@ -1,10 +1,16 @@
 -- Kinds and states as 64-bit numbers at the C boundary (document 01, item 11; a kind or mark other than 0 or 1 gets 15).
+use mathlib.Core.Path.{_≡_}
 use mathlib.Core.Bool.{Bool, true, false, cond}
 use Prim.Native.Nat.{ℕ}
 use lib.Dec.{eqb}
+use lib.IntN.{ℤ}
 use Rattle.rules.specs.declared.Kind.{Kind}
 use Rattle.rules.specs.declared.Kind.the-variants.{Polygons, Tree}
+use Rattle.rules.specs.declared.Refusal.the-variants.{Unsound}
+use Rattle.rules.specs.declared.Reply.{Reply}
+use Rattle.rules.specs.declared.Reply.the-variants.{Refused}
 use Rattle.rules.specs.declared.State.{State}
+use Rattle.rules.specs.Numbers.{replyNumber}
 use Rattle.states.specs.declared.StateNumbers.{StateNumbers}
 use Rattle.states.specs.declared.NamedKind.{NamedKind}
 use Rattle.states.specs.declared.NamedKind as NamedKind
@@ -53,3 +59,8 @@ stateNumbers state =
       polygons = state .polygons;
       «undo_depth» = state .«undo_depth»;
     }
+
+-- a look-up's number, by what is promised of its reply; 15 where the numbers name no state
+abbrev pub Replied : NamedState → (State → Reply → Type 0) → ℤ → Type 0
+Replied Unknown Promised answer = answer ≡ replyNumber (Refused Unsound)
+Replied (Known state) Promised answer = (reply : Reply) × Promised state reply × (answer ≡ replyNumber reply)

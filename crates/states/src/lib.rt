@@ -72,7 +72,8 @@ pub fn state_of(numbers: StateNumbers) -> NamedState
     }
 }
 
-fn kind_number(kind: Kind) -> usize
+/// 0 for a list, 1 for a tree.
+pub fn kind_number(kind: Kind) -> usize
     ensures { λ r. ⌜ r ≡ kindNumber kind ⌝ }
 {
     match kind {

@@ -4,7 +4,8 @@ use mathlib.Core.Bool.{Bool, true, false, cond}
 use mathlib.Core.List.{List}
 use Prim.Native.Nat.{ℕ, _*_, _/_, _≤_, _<_}
 use native.Mathlib.Omega.{arith}
-use lib.Dec.{ltb}
+use lib.Dec.{eqb, ltb}
+use lib.IntN.{ℤ}
 use lib.ListN.{length}
 use borrow.Author.Tests.{lt-ltb, le-ltb, ltb-false}
 use Rattle.rules.specs.declared.Refusal.{Refusal}
@@ -13,12 +14,14 @@ use Rattle.rules.specs.declared.Table.the-variants.{Corners, Rings, Polygons}
 use Rattle.rules.specs.Lists.{total}
 use Rattle.rules.specs.Plans.{Plan}
 use Rattle.lines.specs.declared.Size.{Size}
+use Rattle.text.specs.declared.Reading.{Reading}
 use Rattle.text.specs.declared.Reading.the-variants.{Read, Refused}
 use Rattle.lines.specs.declared.stages.Stage.{Stage}
 use Rattle.lines.specs.declared.stages.Stage.the-variants as Stage
 use Rattle.lines.specs.Plans.{Meaning, Start, Gives, Broken, meaning, sizeOf}
-use Rattle.text.specs.Readings.{withRoom, readingOf, reading}
+use Rattle.text.specs.Readings.{readingNumber, readingDetail, withRoom, readingOf, reading, shortTable, numberOf, detailOf, numberDue, detailDue, written, PlanRead}
 use Rattle.lines.specs.Steps.{stageOf, Ready}
+use Rattle.lines.specs.Stored.{planIn}
 use Rattle.lines.proofs.Sensible.{Fine, meaning-fine}
 
 module _ (text : List ℕ) (corners lengths counts : ℕ) where
@@ -72,6 +75,67 @@ module _ (size : Size) (corners rings polygons : ℕ) where
 
       pub room-enough : size .polygons ≤ polygons → Read size ≡ withRoom size corners rings polygons
       room-enough c = sym (rw (le-ltb corners (2 * size .corners) (omega arith), le-ltb rings (size .rings) b, le-ltb polygons (size .polygons) c) refl)
+
+-- ---- the numbers
+
+module _ (corners rings polygons : ℕ) where
+  room-number : (size : Size) → readingNumber (withRoom size corners rings polygons) ≡ cond (eqb (shortTable size corners rings polygons) 0) 0 11
+  room-number size = go (ltb corners (2 * size .corners)) (ltb rings (size .rings)) (ltb polygons (size .polygons))
+    where
+      go : (a b c : Bool) → readingNumber (cond a (Refused (TableTooShort Corners)) (cond b (Refused (TableTooShort Rings)) (cond c (Refused (TableTooShort Polygons)) (Read size)))) ≡ cond (eqb (cond a 1 (cond b 2 (cond c 3 0))) 0) 0 11
+      go true b c = refl
+      go false true c = refl
+      go false false true = refl
+      go false false false = refl
+
+  room-detail : (size : Size) → readingDetail (withRoom size corners rings polygons) ≡ shortTable size corners rings polygons
+  room-detail size = go (ltb corners (2 * size .corners)) (ltb rings (size .rings)) (ltb polygons (size .polygons))
+    where
+      go : (a b c : Bool) → readingDetail (cond a (Refused (TableTooShort Corners)) (cond b (Refused (TableTooShort Rings)) (cond c (Refused (TableTooShort Polygons)) (Read size)))) ≡ cond a 1 (cond b 2 (cond c 3 0))
+      go true b c = refl
+      go false true c = refl
+      go false false true = refl
+      go false false false = refl
+
+  number-of : (m : Meaning) → readingNumber (readingOf m corners rings polygons) ≡ numberOf m corners rings polygons
+  number-of Start = refl
+  number-of (Gives plan) = room-number (sizeOf plan)
+  number-of (Broken line) = refl
+
+  detail-of : (m : Meaning) → readingDetail (readingOf m corners rings polygons) ≡ detailOf m corners rings polygons
+  detail-of Start = refl
+  detail-of (Gives plan) = room-detail (sizeOf plan)
+  detail-of (Broken line) = refl
+
+  pub number-due : (text : List ℕ) → readingNumber (reading text corners rings polygons) ≡ numberDue text corners rings polygons
+  unfolding reading numberDue
+  number-due text = go (ltb 65536 (length text))
+    where
+      go : (long : Bool) → readingNumber (cond long (Refused TextTooLong) (readingOf (meaning text) corners rings polygons)) ≡ cond long 1 (numberOf (meaning text) corners rings polygons)
+      go true = refl
+      go false = number-of (meaning text)
+
+  pub detail-due : (text : List ℕ) → readingDetail (reading text corners rings polygons) ≡ detailDue text corners rings polygons
+  unfolding reading detailDue
+  detail-due text = go (ltb 65536 (length text))
+    where
+      go : (long : Bool) → readingDetail (cond long (Refused TextTooLong) (readingOf (meaning text) corners rings polygons)) ≡ cond long 0 (detailOf (meaning text) corners rings polygons)
+      go true = refl
+      go false = detail-of (meaning text)
+
+-- ---- answer and tables
+
+-- what the promise says, from the answer and what became of the tables
+pub read-as : (text : List ℕ) (corners corners' : List ℤ) (lengths lengths' counts counts' : List ℕ) (r : Reading) → r ≡ reading text (length corners) (length lengths) (length counts) → corners' ≡ written r (planIn (meaning text) .coordinates) corners → lengths' ≡ written r (planIn (meaning text) .lengths) lengths
+    → counts' ≡ written r (planIn (meaning text) .counts) counts → PlanRead text corners corners' lengths lengths' counts counts' r
+read-as text corners corners' lengths lengths' counts counts' r e x y z = record {
+  answer = e;
+  number = ap readingNumber e ∙ number-due (length corners) (length lengths) (length counts) text;
+  detail = ap readingDetail e ∙ detail-due (length corners) (length lengths) (length counts) text;
+  corners-written = x;
+  lengths-written = y;
+  counts-written = z;
+}
 
 -- ---- a plan that was read
 

@@ -1,9 +1,11 @@
--- The contract of `text::read_plan`, whatever the code is, rules out wrong readers. Assumes nothing.
+-- The contracts of `text::read_plan`, `reading_numbers` and `line_span`, whatever the code is, rule out wrong readers. Assumes nothing.
 use mathlib.Core.Path.{_≡_, sym, ap, _∙_}
 use mathlib.Core.List.{List, [], _∷_, _++_}
 use Prim.Native.Nat.{ℕ, _<_}
+use native.Mathlib.Omega.{arith}
 use lib.IntN.{ℤ, pos}
-use lib.ListN.{length}
+use lib.ListN.{length, take, drop, length-drop}
+use lib.Seq.{length-take-le}
 use Rattle.fields.specs.Bytes.{sameBytes}
 use Rattle.fields.specs.Decimals.{digitsWithin, digits, decimal, worth, valueOf, numberOf}
 use Rattle.fields.specs.Pieces.{split}
@@ -12,8 +14,11 @@ use Rattle.rules.specs.declared.Refusal.{Refusal}
 use Rattle.rules.specs.declared.Refusal.the-variants.{TextTooLong, BadLine, TableTooShort}
 use Rattle.rules.specs.declared.Table.the-variants as Table
 use Rattle.text.specs.declared.Reading.{Reading}
+use Rattle.text.specs.declared.Span.{Span}
 use Rattle.text.specs.declared.Reading.the-variants.{Read, Refused}
 use Rattle.lines.specs.Plans.{lastOneMore, grown, afterLines, meaning}
+use Rattle.text.specs.Lines.{LineSpan}
+use Rattle.text.specs.Numbers.{readingNumbers}
 use Rattle.text.specs.Readings.{readingNumber, readingDetail, reading, written, PlanRead}
 use Rattle.lines.specs.Records.{oneField, twoFields, threeFields, recordOf}
 use Rattle.lines.specs.Words.{plan, tree, outer, hole, node, at}
@@ -76,6 +81,13 @@ pub tree-without-polygons : (lengths' : List ℕ) (r : Reading) → PlanRead (te
 unfolding reading meaning afterLines grown recordOf oneField twoFields split sameBytes
 tree-without-polygons lengths' r g = g .answer
 
+-- by the numbers: a tree, of one ring; and a refusal has no kind and no counts
+pub tree-numbered : (lengths' : List ℕ) (r : Reading) → PlanRead (text (plan ⇥ tree ∷ node ∷ [])) [] [] (7 ∷ []) lengths' [] [] r → readingNumbers r ≡ record { refusal = 0; detail = 0; kind = 1; corners = 0; rings = 1; polygons = 0 }
+tree-numbered lengths' r g = ap readingNumbers (tree-without-polygons lengths' r g)
+
+pub refusal-numbered : (r : Reading) → PlanRead (text (plan ∷ hole ∷ [])) [] [] [] [] [] [] r → readingNumbers r ≡ record { refusal = 2; detail = 2; kind = 0; corners = 0; rings = 0; polygons = 0 }
+refusal-numbered r g = ap readingNumbers (line-named r g)
+
 -- 1 comes before 2 and 11, whatever the text says
 pub length-first : (s : List ℕ) (corners corners' : List ℤ) (lengths lengths' counts counts' : List ℕ) (r : Reading) → 65536 < length s → PlanRead s corners corners' lengths lengths' counts counts' r → r ≡ Refused TextTooLong
 length-first s corners corners' lengths lengths' counts counts' r h g = g .answer ∙ sym (too-long s (length corners) (length lengths) (length counts) h)
@@ -84,3 +96,13 @@ length-first s corners corners' lengths lengths' counts counts' r h g = g .answe
 pub line-before-table : (r : Reading) → PlanRead (text (plan ∷ outer ∷ (outer ++ outer) ∷ [])) [] [] [] [] [] [] r → r ≡ Refused (BadLine 3)
 unfolding reading meaning afterLines grown recordOf oneField split sameBytes
 line-before-table r g = g .answer
+
+-- a line stands at one place only, however often its bytes come up
+pub one-span : (s : List ℕ) (k : ℕ) (a b : Span) → LineSpan s k a → LineSpan s k b → a ≡ b
+one-span s k a b g h =
+    let same : a .offset ≡ b .offset = g .starts ∙ sym (h .starts) in
+    let long : a .length ≡ b .length = sym (whole a g) ∙ ap length (g .bytes ∙ sym (h .bytes)) ∙ whole b h in
+    λ i. record { offset = same i; length = long i }
+  where
+    whole : (span : Span) → LineSpan s k span → length (take (span .length) (drop (span .offset) s)) ≡ span .length
+    whole span f = let w = f .within in let l = length-drop (span .offset) s in length-take-le (span .length) (drop (span .offset) s) (omega arith)

@@ -7,7 +7,7 @@ use Rattle.fields.specs.Bytes.{sameBytes}
 use Rattle.fields.specs.Decimals.{digitsWithin, digits, decimal, worth, valueOf, numberOf}
 use Rattle.fields.specs.Pieces.{split}
 use Rattle.rules.specs.declared.Kind.the-variants.{Polygons, Tree}
-use Rattle.text.specs.Lines.{lineOf}
+use Rattle.text.specs.Lines.{lineOf, startOf, lineStart}
 use Rattle.lines.specs.Plans.{Gives, Broken, emptyPlan, lastOneMore, grown, afterLines, meaning}
 use Rattle.lines.specs.Records.{oneField, twoFields, threeFields, recordOf}
 use Rattle.lines.specs.Words.{plan, list, tree, outer, hole, node, at}
@@ -127,3 +127,21 @@ no-line-zero = refl
 unended-line : lineOf (text (plan ∷ []) ++ outer) 2 ≡ outer
 unfolding lineOf split
 unended-line = refl
+
+-- ---- where line k starts
+
+second-start : lineStart (text (plan ∷ outer ∷ [])) 2 ≡ 5
+unfolding lineStart startOf split
+second-start = refl
+
+unended-start : lineStart (text (plan ∷ []) ++ outer) 2 ≡ 5
+unfolding lineStart startOf split
+unended-start = refl
+
+after-blank-start : lineStart (text ([] ∷ [] ∷ outer ∷ [])) 3 ≡ 2
+unfolding lineStart startOf split
+after-blank-start = refl
+
+no-fourth-start : lineStart (text (plan ∷ outer ∷ [])) 4 ≡ 0
+unfolding lineStart startOf split
+no-fourth-start = refl

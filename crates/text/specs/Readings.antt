@@ -3,7 +3,7 @@ use mathlib.Core.Path.{_≡_}
 use mathlib.Core.Bool.{cond}
 use mathlib.Core.List.{List}
 use Prim.Native.Nat.{ℕ, _*_}
-use lib.Dec.{ltb}
+use lib.Dec.{eqb, ltb}
 use lib.IntN.{ℤ}
 use lib.ListN.{length}
 use Rattle.rules.specs.declared.Refusal.the-variants.{TextTooLong, BadLine, TableTooShort}
@@ -42,6 +42,32 @@ readingOf (Broken line) corners rings polygons = Refused (BadLine line)
 unfoldable pub reading : List ℕ → ℕ → ℕ → ℕ → Reading
 reading text corners rings polygons = cond (ltb 65536 (length text)) (Refused TextTooLong) (readingOf (meaning text) corners rings polygons)
 
+-- ---- the same in numbers
+
+-- 11's table, the first of corners, rings, polygons that is too short; 0 where none is
+abbrev pub shortTable : Size → ℕ → ℕ → ℕ → ℕ
+shortTable size corners rings polygons = cond (ltb corners (2 * size .corners)) 1 (cond (ltb rings (size .rings)) 2 (cond (ltb polygons (size .polygons)) 3 0))
+
+-- of a text that is not too long: 2 and its line, else 11 and its table, else 0
+abbrev pub numberOf : Meaning → ℕ → ℕ → ℕ → ℕ
+numberOf Start corners rings polygons = 2
+numberOf (Gives plan) corners rings polygons = cond (eqb (shortTable (sizeOf plan) corners rings polygons) 0) 0 11
+numberOf (Broken line) corners rings polygons = 2
+
+abbrev pub detailOf : Meaning → ℕ → ℕ → ℕ → ℕ
+detailOf Start corners rings polygons = 1
+detailOf (Gives plan) corners rings polygons = shortTable (sizeOf plan) corners rings polygons
+detailOf (Broken line) corners rings polygons = line
+
+-- 1 first
+unfoldable pub numberDue : List ℕ → ℕ → ℕ → ℕ → ℕ
+numberDue text corners rings polygons = cond (ltb 65536 (length text)) 1 (numberOf (meaning text) corners rings polygons)
+
+unfoldable pub detailDue : List ℕ → ℕ → ℕ → ℕ → ℕ
+detailDue text corners rings polygons = cond (ltb 65536 (length text)) 0 (detailOf (meaning text) corners rings polygons)
+
+-- ---- the call
+
 -- a table after reading
 abbrev pub written : {A : Type 0} → Reading → List A → List A → List A
 written (Read size) xs table = startingWith xs table
@@ -50,6 +76,8 @@ written (Refused refusal) xs table = table
 -- answer and tables of `read_plan`
 pub record PlanRead (text : List ℕ) (corners corners' : List ℤ) (lengths lengths' counts counts' : List ℕ) (r : Reading) : Type 0 where
   pub answer : r ≡ reading text (length corners) (length lengths) (length counts)
+  pub number : readingNumber r ≡ numberDue text (length corners) (length lengths) (length counts)
+  pub detail : readingDetail r ≡ detailDue text (length corners) (length lengths) (length counts)
   pub corners-written : corners' ≡ written r (planIn (meaning text) .coordinates) corners
   pub lengths-written : lengths' ≡ written r (planIn (meaning text) .lengths) lengths
   pub counts-written : counts' ≡ written r (planIn (meaning text) .counts) counts

@@ -1,6 +1,6 @@
 // Plans as text: reading one, and line k of a text (document 01, item 10).
 ghost use mathlib.Core.Path.{_≡_};
-ghost use Rattle.text.specs.Lines.{lineOf};
+ghost use Rattle.text.specs.Lines.{lineOf, LineSpan};
 ghost use Rattle.text.specs.Readings.{withRoom, reading, PlanRead};
 use fields::find;
 use lines::Size;
@@ -9,6 +9,8 @@ use lines::stages::judge;
 use lines::tables::write_plan;
 use rules::Refusal;
 use rules::Table;
+
+pub mod numbers;
 
 /// The most bytes that a text may have.
 pub const MAX_TEXT: usize = 65536;
@@ -74,10 +76,17 @@ pub fn read_plan(
     }
 }
 
-/// Line k of a text, counted from 1, as a part of it and without its line end. Empty where there is no line k. An unended last piece is a
-/// line.
-pub fn line(text: &[u8], k: usize) -> &[u8]
-    ensures { λ r. ⌜ now r ≡ lineOf (now (text .entry)) k ⌝ }
+/// A part of a text: where it starts, in bytes from the text's start, and how many bytes it has.
+#[repr(C)]
+pub struct Span {
+    pub offset: usize,
+    pub length: usize,
+}
+
+/// Where line k of a text stands, counted from 1 and without its line end. Where there is no line k both numbers are 0. An unended last piece
+/// is a line. Nothing is refused.
+pub fn line_span(text: &[u8], k: usize) -> Span
+    ensures { λ r. ⌜ LineSpan (now (text .entry)) k r ⌝ }
 {
     let mut number = 1;
     let mut from = 0;
@@ -88,7 +97,25 @@ pub fn line(text: &[u8], k: usize) -> &[u8]
         end = find(text, b'\n', from);
     }
     if number == k {
-        return &text[from..end];
+        let length = end - from;
+        return Span {
+            offset: from,
+            length,
+        };
     }
-    &text[..0]
+    Span {
+        offset: 0,
+        length: 0,
+    }
+}
+
+/// Line k of a text, counted from 1, as a part of it and without its line end. Empty where there is no line k. An unended last piece is a
+/// line.
+pub fn line(text: &[u8], k: usize) -> &[u8]
+    ensures { λ r. ⌜ now r ≡ lineOf (now (text .entry)) k ⌝ }
+{
+    let span = line_span(text, k);
+    let from = span.offset;
+    let end = from + span.length;
+    &text[from..end]
 }

@@ -96,15 +96,15 @@ module _ (n : ℕ) (boxes : List (List ℤ)) (parts : List (List ℕ)) (edges : 
     seeking-never f corners rings T h q = let s = S .sought corners rings T in never-unsound n corners rings boxes parts edges T (Holding wanted) stack c (s .came) (s .walked) f
 
     -- a walk does not end without an edge whose box it enters
-    pub seeking-ended : Ends n boxes parts edges (Holding wanted) stack c → (corners : List ℤ) (rings : List ℕ) → WalkSound n corners rings boxes parts edges → e < n → edgeBox corners rings e ≡ wanted → ⊥
-    seeking-ended E corners rings T h q =
+    pub seeking-ended : (stack′ : List ℕ) → Ends n boxes parts edges (Holding wanted) stack c stack′ → (corners : List ℤ) (rings : List ℕ) → WalkSound n corners rings boxes parts edges → e < n → edgeBox corners rings e ≡ wanted → ⊥
+    seeking-ended stack′ E corners rings T h q =
         let s = S .sought corners rings T in
         let enters = ap (λ r. holdsRect (edgeBox corners rings e) r) (sym q) ∙ own-box corners rings e in
-        omega (arith, s .without, all-met n corners rings boxes parts edges T (Holding wanted) stack c (s .came) (s .walked) E .all e h enters)
+        omega (arith, s .without, all-met n corners rings boxes parts edges T (Holding wanted) stack c (s .came) (s .walked) stack′ E .all e h enters)
 
 -- the walk to the box of the edge found answers for the edge
 pub walked-says : (n count : ℕ) (corners : List ℤ) (rings : List ℕ) (boxes : List (List ℤ)) (parts : List (List ℕ)) (edges : List ℕ) (e ring : ℕ) (a b : Point) → EdgeFound n count corners rings e ring a b
     → (wanted : Rect) → wanted ≡ rectOf a b → (r : Place) → WalkedTo n boxes parts edges wanted e r → PlaceSays n count corners rings boxes parts edges e r
-walked-says n count corners rings boxes parts edges e ring a b F wanted q (At k) w = record { plan = record { corners-reach = F .reach; rings-reach = F .rings-reach }; index = w .0; stands = w .1 }
+walked-says n count corners rings boxes parts edges e ring a b F wanted q (At k) w = record { number = refl; plan = record { corners-reach = F .reach; rings-reach = F .rings-reach }; index = w .0; stands = w .1 }
 walked-says n count corners rings boxes parts edges e ring a b F wanted q Place.the-variants.Unsound w =
-    λ S. w corners rings (S .walk) (F .one) (found-box n count corners rings e ring a b F (S .edge .ends) ∙ sym q)
+    record { number = refl; never = λ S. w corners rings (S .walk) (F .one) (found-box n count corners rings e ring a b F (S .edge .ends) ∙ sym q) }

@@ -138,17 +138,17 @@ module _ (n : ℕ) (corners : List ℤ) (rings : List ℕ) (boxes : List (List �
     behind : c .at ≤ n
     behind = omega (arith, W .walking .here, W .walking .inside)
 
-    pub ended : Ends n boxes parts edges query stack c → Yielded corners rings edges query n es
-    ended E = over-to corners rings edges query (c .at) n es behind (W .yielded) (E .over corners rings T (W .walking))
+    pub ended : (stack′ : List ℕ) → Ends n boxes parts edges query stack c stack′ → Yielded corners rings edges query n es
+    ended stack′ E = over-to corners rings edges query (c .at) n es behind (W .yielded) (E .over corners rings T (W .walking))
 
     -- sound tables never get 15
     pub never-unsound : Never n boxes parts edges stack c → ⊥
     never-unsound f = f corners rings T (W .walking)
 
     pub never-refused : (stack′ : List ℕ) (r : Step) → Says n boxes parts edges query stack c stack′ r → stepNumber r ≡ 0
-    never-refused stack′ (Edge e c′) s = refl
-    never-refused stack′ End s = refl
-    never-refused stack′ Step.the-variants.Unsound s = absurd (never-unsound s)
+    never-refused stack′ (Edge e c′) s = s .number
+    never-refused stack′ End s = s .number
+    never-refused stack′ Step.the-variants.Unsound s = absurd (never-unsound (s .never))
 
     -- at any time: edge numbers, none of them twice
     pub some-edges : SomeEdges n es
@@ -212,5 +212,5 @@ module _ (n : ℕ) (corners : List ℤ) (rings : List ℕ) (boxes : List (List �
       any-of-ring test z = any-all (λ e. inRing rings r e && test e) (fails-too test z) ∙ any-ring rings r test n rise reach
 
   -- the whole of it
-  pub all-met : (stack : List ℕ) (c : Cursor) (es : List ℕ) → Walked n corners rings parts edges query stack c es → Ends n boxes parts edges query stack c → AllMet n corners rings query es
-  all-met stack c es W E = record { some = some-edges stack c es W; all = met-yielded es (ended stack c es W E) }
+  pub all-met : (stack : List ℕ) (c : Cursor) (es : List ℕ) → Walked n corners rings parts edges query stack c es → (stack′ : List ℕ) → Ends n boxes parts edges query stack c stack′ → AllMet n corners rings query es
+  all-met stack c es W stack′ E = record { some = some-edges stack c es W; all = met-yielded es (ended stack c es W stack′ E) }

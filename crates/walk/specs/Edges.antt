@@ -34,6 +34,7 @@ pub record EdgeSound (n count : ℕ) (corners : List ℤ) (rings : List ℕ) (e 
 -- on any tables the ring holds the edge, which runs from its corner to the next one between the ring's two ends, and both are corners of
 -- the plan. On a table of ring ends that is the edge of item 1, and no other ring holds it
 pub record EdgeFound (n count : ℕ) (corners : List ℤ) (rings : List ℕ) (e ring : ℕ) (a b : Point) : Type 0 where
+  pub number : edgeNumber (At ring a b) ≡ 0
   pub one : e < n
   pub reach : 2 * n ≤ length corners
   pub rings-reach : count ≤ length rings
@@ -44,6 +45,11 @@ pub record EdgeFound (n count : ℕ) (corners : List ℤ) (rings : List ℕ) (e 
   pub edge : RingEnds n count rings → (a, b) ≡ edgeOf corners rings e
   pub only : RingEnds n count rings → (r : ℕ) → RingAt rings count e r → r ≡ ring
 
+-- 15: never for an edge of tables that are sound so far
+pub record EdgeRefused (n count : ℕ) (corners : List ℤ) (rings : List ℕ) (e : ℕ) : Type 0 where
+  pub number : edgeNumber Edge.the-variants.Unsound ≡ 15
+  pub never : EdgeSound n count corners rings e → ⊥
+
 abbrev pub EdgeSays : List ℤ → List ℕ → ℕ → ℕ → ℕ → Edge → Type 0
 EdgeSays corners rings n count e (At ring a b) = EdgeFound n count corners rings e ring a b
-EdgeSays corners rings n count e Edge.the-variants.Unsound = EdgeSound n count corners rings e → ⊥
+EdgeSays corners rings n count e Edge.the-variants.Unsound = EdgeRefused n count corners rings e

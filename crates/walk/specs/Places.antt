@@ -45,6 +45,7 @@ pub record PlanReach (n count corners rings : ℕ) : Type 0 where
 
 -- what a place says
 pub record PlaceFound (n count : ℕ) (corners : List ℤ) (rings : List ℕ) (boxes : List (List ℤ)) (parts : List (List ℕ)) (edges : List ℕ) (e k : ℕ) : Type 0 where
+  pub number : placeNumber (At k) ≡ 0
   pub plan : PlanReach n count (length corners) (length rings)
   pub index : IndexReach n (length boxes) (length parts) (length edges)
   pub stands : StandsAt n edges e k
@@ -55,6 +56,11 @@ WalkedTo n boxes parts edges wanted e (At k) = IndexReach n (length boxes) (leng
 WalkedTo n boxes parts edges wanted e Place.the-variants.Unsound =
     (corners : List ℤ) (rings : List ℕ) → WalkSound n corners rings boxes parts edges → e < n → edgeBox corners rings e ≡ wanted → ⊥
 
+-- 15: never for an edge of sound tables
+pub record PlaceRefused (n count : ℕ) (corners : List ℤ) (rings : List ℕ) (boxes : List (List ℤ)) (parts : List (List ℕ)) (edges : List ℕ) (e : ℕ) : Type 0 where
+  pub number : placeNumber Place.the-variants.Unsound ≡ 15
+  pub never : PlaceSound n count corners rings boxes parts edges e → ⊥
+
 abbrev pub PlaceSays : ℕ → ℕ → List ℤ → List ℕ → List (List ℤ) → List (List ℕ) → List ℕ → ℕ → Place → Type 0
 PlaceSays n count corners rings boxes parts edges e (At k) = PlaceFound n count corners rings boxes parts edges e k
-PlaceSays n count corners rings boxes parts edges e Place.the-variants.Unsound = PlaceSound n count corners rings boxes parts edges e → ⊥
+PlaceSays n count corners rings boxes parts edges e Place.the-variants.Unsound = PlaceRefused n count corners rings boxes parts edges e

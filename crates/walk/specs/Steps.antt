@@ -11,6 +11,7 @@ use Rattle.rules.specs.declared.Refusal.the-variants.{Unsound}
 use Rattle.rules.specs.Nodes.{nodeCount}
 use Rattle.rules.specs.Numbers.{refusalNumber}
 use Rattle.boxes.specs.Boxes.{rectAt, edgeBox}
+use Rattle.index.specs.Build.{KeptFrom}
 use Rattle.index.specs.Parts.{firstAt, countAt, childAt}
 use Rattle.index.specs.Sound.{IndexSound}
 use Rattle.walk.specs.declared.Cursor.{Cursor}
@@ -178,15 +179,21 @@ pub record Advanced (n : ℕ) (boxes : List (List ℤ)) (parts : List (List ℕ)
   pub met : cursor′ .met ≡ cursor .met + 1
   pub more : cursor .met < cursor .nodes
   pub less : remaining cursor′ < remaining cursor
+  pub space : KeptFrom 18 stack stack′
   pub turned : (corners : List ℤ) (rings edges : List ℕ) → WalkSound n corners rings boxes parts edges → Walking n parts stack cursor → Turned n corners rings edges parts query cursor stack′ cursor′
 
 -- no sound tables with a walk that stands so
 abbrev pub Never : ℕ → List (List ℤ) → List (List ℕ) → List ℕ → List ℕ → Cursor → Type 0
 Never n boxes parts edges stack cursor = (corners : List ℤ) (rings : List ℕ) → WalkSound n corners rings boxes parts edges → Walking n parts stack cursor → ⊥
 
+-- a node that stops the walk: nothing is written
+pub record Halted (n : ℕ) (boxes : List (List ℤ)) (parts : List (List ℕ)) (stack : List ℕ) (cursor : Cursor) (stack′ : List ℕ) : Type 0 where
+  pub same : stack′ ≡ stack
+  pub never : (edges : List ℕ) → Never n boxes parts edges stack cursor
+
 abbrev pub TurnSays : ℕ → List (List ℤ) → List (List ℕ) → Query → List ℕ → Cursor → List ℕ → Turn → Type 0
 TurnSays n boxes parts query stack cursor stack′ (On cursor′) = Advanced n boxes parts query stack cursor stack′ cursor′
-TurnSays n boxes parts query stack cursor stack′ Turn.the-variants.Unsound = (edges : List ℕ) → Never n boxes parts edges stack cursor
+TurnSays n boxes parts query stack cursor stack′ Turn.the-variants.Unsound = Halted n boxes parts stack cursor stack′
 
 -- ---- a step
 
@@ -196,8 +203,10 @@ pub record Went (n : ℕ) (corners : List ℤ) (rings : List ℕ) (parts : List 
   pub over : Over corners rings edges query (cursor .at) place
   pub walking : Walking n parts stack′ cursor′
 
--- an edge: one of n, read at the place before the cursor's, from tables long enough, and nearer to the end
+-- an edge: one of n, read at the place before the cursor's, from tables long enough, and nearer to the end. Of the stack only the first 18
+-- numbers may have changed
 pub record Yields (n : ℕ) (boxes : List (List ℤ)) (parts : List (List ℕ)) (edges : List ℕ) (query : Query) (stack : List ℕ) (cursor : Cursor) (stack′ : List ℕ) (e : ℕ) (cursor′ : Cursor) : Type 0 where
+  pub number : stepNumber (Edge e cursor′) ≡ 0
   pub edge : e < n
   pub place : ℕ
   pub next : cursor′ .at ≡ place + 1
@@ -207,12 +216,27 @@ pub record Yields (n : ℕ) (boxes : List (List ℤ)) (parts : List (List ℕ)) 
   pub same : cursor′ .nodes ≡ cursor .nodes
   pub lent-next : Lent n (length stack′) (length boxes) (length parts) (length edges) cursor′
   pub less : remaining cursor′ < remaining cursor
+  pub space : KeptFrom 18 stack stack′
   pub went : (corners : List ℤ) (rings : List ℕ) → WalkSound n corners rings boxes parts edges → Walking n parts stack cursor → Went n corners rings parts edges query cursor place stack′ cursor′
 
--- the end: on sound tables every place that is left can be passed over
-pub record Ends (n : ℕ) (boxes : List (List ℤ)) (parts : List (List ℕ)) (edges : List ℕ) (query : Query) (stack : List ℕ) (cursor : Cursor) : Type 0 where
+-- the end, of a step and up to a leaf: on sound tables every place that is left can be passed over. Of the stack, again, only the first 18
+-- numbers may have changed
+pub record Ends (n : ℕ) (boxes : List (List ℤ)) (parts : List (List ℕ)) (edges : List ℕ) (query : Query) (stack : List ℕ) (cursor : Cursor) (stack′ : List ℕ) : Type 0 where
+  pub number : stepNumber End ≡ 0
+  pub stop-number : stopNumber Stop.the-variants.End ≡ 0
   pub lent : Lent n (length stack) (length boxes) (length parts) (length edges) cursor
+  pub space : KeptFrom 18 stack stack′
   pub over : (corners : List ℤ) (rings : List ℕ) → WalkSound n corners rings boxes parts edges → Walking n parts stack cursor → Over corners rings edges query (cursor .at) n
+
+-- 15, of a step and up to a leaf: never on sound tables with a walk that stands so. The stack is working space, of which only the first 18
+-- numbers may have changed, and none where a leaf was in hand, or a table or the stack itself is too short
+pub record Refused (n : ℕ) (boxes : List (List ℤ)) (parts : List (List ℕ)) (edges : List ℕ) (stack : List ℕ) (cursor : Cursor) (stack′ : List ℕ) : Type 0 where
+  pub number : stepNumber Step.the-variants.Unsound ≡ 15
+  pub stop-number : stopNumber Stop.the-variants.Unsound ≡ 15
+  pub never : Never n boxes parts edges stack cursor
+  pub space : KeptFrom 18 stack stack′
+  pub in-hand : cursor .at < cursor .to → stack′ ≡ stack
+  pub unlent : (Lent n (length stack) (length boxes) (length parts) (length edges) cursor → ⊥) → stack′ ≡ stack
 
 -- ---- up to a leaf
 
@@ -220,26 +244,28 @@ pub record Ends (n : ℕ) (boxes : List (List ℤ)) (parts : List (List ℕ)) (e
 -- with a leaf in hand it stays. On sound tables the places passed over have no edge whose box is one to enter
 pub record Going (n : ℕ) (boxes : List (List ℤ)) (parts : List (List ℕ)) (edges : List ℕ) (query : Query) (stack : List ℕ) (cursor : Cursor) (stack′ : List ℕ) (here : Cursor) : Type 0 where
   pub lent : Lent n (length stack) (length boxes) (length parts) (length edges) cursor
-  pub long : length stack′ ≡ length stack
+  pub space : KeptFrom 18 stack stack′
   pub same : here .nodes ≡ cursor .nodes
   pub few : here .waiting ≤ 18
   pub inside : here .to ≤ n
   pub near : remaining here ≤ remaining cursor
   pub stays : cursor .at < cursor .to → here ≡ cursor
+  pub in-hand : cursor .at < cursor .to → stack′ ≡ stack
   pub turned : (corners : List ℤ) (rings : List ℕ) → WalkSound n corners rings boxes parts edges → Walking n parts stack cursor → Turned n corners rings edges parts query cursor stack′ here
 
 -- it has a leaf in hand
 pub record InHand (n : ℕ) (boxes : List (List ℤ)) (parts : List (List ℕ)) (edges : List ℕ) (query : Query) (stack : List ℕ) (cursor : Cursor) (stack′ : List ℕ) (here : Cursor) : Type 0 where
+  pub number : stopNumber (Stop.the-variants.Leaf here) ≡ 0
   pub going : Going n boxes parts edges query stack cursor stack′ here
   pub some : here .at < here .to
 
 abbrev pub StopSays : ℕ → List (List ℤ) → List (List ℕ) → List ℕ → Query → List ℕ → Cursor → List ℕ → Stop → Type 0
 StopSays n boxes parts edges query stack cursor stack′ (Stop.the-variants.Leaf here) = InHand n boxes parts edges query stack cursor stack′ here
-StopSays n boxes parts edges query stack cursor stack′ Stop.the-variants.End = Ends n boxes parts edges query stack cursor
-StopSays n boxes parts edges query stack cursor stack′ Stop.the-variants.Unsound = Never n boxes parts edges stack cursor
+StopSays n boxes parts edges query stack cursor stack′ Stop.the-variants.End = Ends n boxes parts edges query stack cursor stack′
+StopSays n boxes parts edges query stack cursor stack′ Stop.the-variants.Unsound = Refused n boxes parts edges stack cursor stack′
 
 -- ---- an edge
 abbrev pub Says : ℕ → List (List ℤ) → List (List ℕ) → List ℕ → Query → List ℕ → Cursor → List ℕ → Step → Type 0
 Says n boxes parts edges query stack cursor stack′ (Edge e cursor′) = Yields n boxes parts edges query stack cursor stack′ e cursor′
-Says n boxes parts edges query stack cursor stack′ End = Ends n boxes parts edges query stack cursor
-Says n boxes parts edges query stack cursor stack′ Step.the-variants.Unsound = Never n boxes parts edges stack cursor
+Says n boxes parts edges query stack cursor stack′ End = Ends n boxes parts edges query stack cursor stack′
+Says n boxes parts edges query stack cursor stack′ Step.the-variants.Unsound = Refused n boxes parts edges stack cursor stack′

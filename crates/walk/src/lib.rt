@@ -265,7 +265,8 @@ pub fn past_leaf(cursor: Cursor) -> Cursor
 
 /// The next edge of a walk that looks for what the query says, with the walk after it, or the end. The tables are only read. The stack
 /// is working space and no table of the plan: an array of `STACK` numbers that the caller keeps for the length of one walk and lends to
-/// each step. A step that is refused leaves every table as it was; of the stack it promises its length alone.
+/// each step. Whatever a step gives, of the stack it may have changed the first `STACK` numbers and no other. One that is refused leaves
+/// every table as it was, and the stack too where a leaf was in hand or a table or the stack is too short.
 ///
 /// On sound tables, with a cursor and a stack as `start` and earlier steps left them, every edge whose box the query enters comes, none
 /// twice, and others may come. On any tables an edge that comes stands in the edge list at the place before the cursor's. Refused with

@@ -27,13 +27,13 @@
 //!
 //! # What is proved
 //!
-//! Every look-up, move and undo, and the preparing itself, is a call of the static library `capi`, whose functions are proved to meet their
-//! contracts: the replies are those of the winding and even-odd rules, a look-up through the boxes and one ring by ring reply alike, a
-//! refused call changes nothing, and once all moves are undone the tables are as first prepared. This crate keeps the tables that the
-//! library is lent, so nobody else writes them, and what the library answers to unsound tables never comes up.
+//! Every look-up, move and undo, the preparing itself and the reading of text are calls of the static library `capi`, whose functions are
+//! proved to meet their contracts: the replies are those of the winding and even-odd rules, a look-up through the boxes and one ring by
+//! ring reply alike, a refused call changes nothing, and once all moves are undone the tables are as first prepared. This crate keeps the
+//! tables that the library is lent, so nobody else writes them, and what the library answers to unsound tables never comes up.
 //!
-//! Outside the proof are this crate's own lines: the lists that become tables, the reader behind [`Plan::from_text`], and the module
-//! that calls the library, the only one with `unsafe` code.
+//! Outside the proof are this crate's own lines: the lists that become tables, the words of messages, and the module that calls the
+//! library, the only one with `unsafe` code.
 //!
 //! # Threads and stack
 //!
@@ -76,7 +76,7 @@ pub use plan::{Kind, Plan};
 pub use point::{MAX_COORD, MAX_DOUBLED, Point};
 pub use prepared::{Prepared, Rect};
 pub use refusal::{Refusal, Table};
-pub use text::locate_text;
+pub use text::{line, locate_text};
 
 /// The most corners that a plan may have.
 pub const MAX_CORNERS: usize = 1_048_576;

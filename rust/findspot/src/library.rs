@@ -46,6 +46,37 @@ pub(crate) struct Correction {
     pub state: State,
 }
 
+/// What reading a text answers: the refusal number or 0, the line that refusal 2 or the table that refusal 11 names, and the plan's kind and size.
+#[repr(C)]
+pub(crate) struct Reading {
+    pub refusal: usize,
+    pub detail: usize,
+    /// 0 a list, 1 a tree.
+    pub kind: usize,
+    pub corners: usize,
+    pub rings: usize,
+    pub polygons: usize,
+}
+
+/// A part of a text, in bytes.
+#[repr(C)]
+pub(crate) struct Span {
+    pub offset: usize,
+    pub length: usize,
+}
+
+// The library's numbers have 64 bits, and its structs are such numbers side by side.
+const _: () = {
+    assert!(size_of::<usize>() == 8);
+    assert!(size_of::<Point>() == 2 * 8);
+    assert!(size_of::<State>() == 6 * 8);
+    assert!(size_of::<Preparing>() == 9 * 8);
+    assert!(size_of::<First>() == 3 * 8);
+    assert!(size_of::<Correction>() == 7 * 8);
+    assert!(size_of::<Reading>() == 6 * 8);
+    assert!(size_of::<Span>() == 2 * 8);
+};
+
 /// The tables that are lent.
 #[derive(Clone, Debug, PartialEq, Eq)]
 pub(crate) struct Tables {
@@ -93,6 +124,21 @@ type LookUpByRings = unsafe extern "C" fn(
 
 unsafe extern "C" {
     fn findspot_locate_text(text: *const u8, length: usize, x: i64, y: i64) -> i64;
+
+    fn findspot_read_plan(
+        text: *const u8,
+        text_length: usize,
+        corners: *mut i64,
+        corners_length: usize,
+        lengths: *mut usize,
+        lengths_length: usize,
+        counts: *mut usize,
+        counts_length: usize,
+    ) -> Reading;
+
+    fn findspot_line(text: *const u8, length: usize, k: usize) -> Span;
+
+    fn findspot_node_count(corners: usize) -> usize;
 
     fn findspot_prepare(
         kind: usize,
@@ -239,6 +285,43 @@ fn coordinates_of(points: &[Point]) -> usize {
 pub(crate) fn locate_text(text: &[u8], point: Point) -> i64 {
     // SAFETY: pointer and length are those of one slice, which outlives the call and is only read.
     unsafe { findspot_locate_text(text.as_ptr(), text.len(), point.x, point.y) }
+}
+
+/// Reads the plan of a text into these tables. Refused, it leaves them as they were.
+pub(crate) fn read_plan(
+    text: &[u8],
+    corners: &mut [Point],
+    lengths: &mut [usize],
+    counts: &mut [usize],
+) -> Reading {
+    // taken first: no reference to a list is made while a pointer to write it is held
+    let coordinates = coordinates_of(corners);
+    // SAFETY: each pointer and length are those of one list, which outlives the call. The lists that are written are borrowed for it alone.
+    // A point is two numbers x, y by its fixed layout, so a list of points is one of twice as many numbers.
+    unsafe {
+        findspot_read_plan(
+            text.as_ptr(),
+            text.len(),
+            corners.as_mut_ptr().cast(),
+            coordinates,
+            lengths.as_mut_ptr(),
+            lengths.len(),
+            counts.as_mut_ptr(),
+            counts.len(),
+        )
+    }
+}
+
+/// Where a line of a text, counted from 1, stands in it; an empty part where there is no such line.
+pub(crate) fn line(text: &[u8], number: usize) -> Span {
+    // SAFETY: pointer and length are those of one slice, which outlives the call and is only read.
+    unsafe { findspot_line(text.as_ptr(), text.len(), number) }
+}
+
+/// N(n), the number of nodes over n corners.
+pub(crate) fn node_count(corners: usize) -> usize {
+    // SAFETY: it is handed one number and touches no memory of the caller.
+    unsafe { findspot_node_count(corners) }
 }
 
 impl Tables {

@@ -15,6 +15,25 @@ pub enum Kind {
     Tree,
 }
 
+impl Kind {
+    /// The kind's number at the library: 0 a list, 1 a tree.
+    pub(crate) fn number(self) -> usize {
+        match self {
+            Kind::List => 0,
+            Kind::Tree => 1,
+        }
+    }
+
+    /// The kind of a number that the library answers.
+    pub(crate) fn of_number(number: usize) -> Kind {
+        match number {
+            0 => Kind::List,
+            1 => Kind::Tree,
+            other => panic!("the library linked is not that of this crate: it names kind {other}"),
+        }
+    }
+}
+
 /// An outline with or without holes, a list of such polygons, or a tree of outlines.
 ///
 /// Corners, edges and rings are numbered from 0 in the order in which they are handed over. Edge i starts at corner i; the last edge of a
@@ -67,8 +86,9 @@ impl Plan {
     {
         let mut plan = Plan::empty(Kind::List);
         for polygon in polygons {
-            plan.open_polygon();
+            let before = plan.ring_lengths.len();
             plan.add_rings(polygon);
+            plan.ring_counts.push(plan.ring_lengths.len() - before);
         }
         plan
     }
@@ -121,12 +141,12 @@ impl Plan {
     /// # Ok::<(), findspot::Refusal>(())
     /// ```
     ///
-    /// The reader is written in this crate and is outside the proof; tests hold it to the proved [`locate_text`](crate::locate_text).
+    /// The reader is the library's, which is proved.
     ///
     /// # Errors
     ///
     /// [`Refusal::TextTooLong`] (1), else [`Refusal::BadLine`] (2) with the first line that breaks the format; a last line that is not ended
-    /// breaks it.
+    /// breaks it. [`line`](crate::line) gives that line, and [`Refusal::explain`] says what is wrong with it.
     pub fn from_text(text: &[u8]) -> Result<Plan, Refusal> {
         text::read(text)
     }
@@ -152,41 +172,19 @@ impl Plan {
     }
 
     /// A plan of no rings.
-    pub(crate) fn empty(kind: Kind) -> Plan {
+    fn empty(kind: Kind) -> Plan {
         Plan::from_tables(kind, Vec::new(), Vec::new(), Vec::new())
     }
 
-    /// Opens a polygon, which has no ring yet.
-    pub(crate) fn open_polygon(&mut self) {
-        self.ring_counts.push(0);
-    }
-
-    /// Opens a ring, which has no corner yet; in a list it is one of the last polygon. Gives nothing where a list has no polygon.
-    pub(crate) fn open_ring(&mut self) -> Option<()> {
-        if self.kind == Kind::List {
-            *self.ring_counts.last_mut()? += 1;
-        }
-        self.ring_lengths.push(0);
-        Some(())
-    }
-
-    /// Adds a corner to the last ring. Gives nothing where there is no ring.
-    pub(crate) fn add_corner(&mut self, corner: Point) -> Option<()> {
-        *self.ring_lengths.last_mut()? += 1;
-        self.corners.push(corner);
-        Some(())
-    }
-
-    /// Adds rings with their corners, in a list to the last polygon, which is there.
+    /// Adds rings with their corners.
     fn add_rings<Ring>(&mut self, rings: impl IntoIterator<Item = Ring>)
     where
         Ring: IntoIterator<Item: Into<Point>>,
     {
         for ring in rings {
-            self.open_ring();
-            for corner in ring {
-                self.add_corner(corner.into());
-            }
+            let before = self.corners.len();
+            self.corners.extend(ring.into_iter().map(Into::into));
+            self.ring_lengths.push(self.corners.len() - before);
         }
     }
 }

@@ -1,6 +1,6 @@
 //! Plans prepared for look-ups and corrections.
 
-use crate::library::{First, State, Tables};
+use crate::library::{self, First, State, Tables};
 use crate::location::Location;
 use crate::plan::{Kind, Plan};
 use crate::point::Point;
@@ -54,7 +54,7 @@ impl Prepared {
         }
         let mut tables = tables_for(plan);
         let preparing = tables.prepare(
-            kind_number(plan.kind()),
+            plan.kind().number(),
             plan.corners(),
             plan.ring_lengths(),
             plan.ring_counts(),
@@ -179,11 +179,7 @@ impl Prepared {
 
     /// The plan's kind.
     pub fn kind(&self) -> Kind {
-        if self.state.kind == kind_number(Kind::Tree) {
-            Kind::Tree
-        } else {
-            Kind::List
-        }
+        Kind::of_number(self.state.kind)
     }
 
     /// Whether every corner is in range.
@@ -281,13 +277,6 @@ fn accepted(refusal: usize) -> Result<(), Refusal> {
     }
 }
 
-fn kind_number(kind: Kind) -> usize {
-    match kind {
-        Kind::List => 0,
-        Kind::Tree => 1,
-    }
-}
-
 /// The lengths of parts, from where each ends.
 fn lengths_of(ends: &[usize]) -> impl Iterator<Item = usize> {
     let starts = [0].into_iter().chain(ends.iter().copied());
@@ -298,7 +287,7 @@ fn lengths_of(ends: &[usize]) -> impl Iterator<Item = usize> {
 /// refused before they are looked at.
 fn tables_for(plan: &Plan) -> Tables {
     let corners = plan.corners().len().min(MAX_CORNERS);
-    let nodes = node_count(corners);
+    let nodes = library::node_count(corners);
     let polygons = match plan.kind() {
         Kind::List => plan.ring_counts().len().min(MAX_POLYGONS),
         Kind::Tree => 0,
@@ -310,50 +299,5 @@ fn tables_for(plan: &Plan) -> Tables {
         boxes: vec![[0; 4]; nodes],
         parts: vec![[0; 3]; nodes],
         edges: vec![0; corners],
-    }
-}
-
-/// N(n), the number of nodes over n edges: one up to 8, else one and those of both halves. It goes level by level, since the parts of
-/// one level differ by at most one edge.
-fn node_count(edges: usize) -> usize {
-    let (mut above, mut size, mut lesser, mut greater) = (0, edges, 1, 0);
-    while size > 8 {
-        above += lesser + greater;
-        if size % 2 == 0 {
-            lesser = 2 * lesser + greater;
-        } else {
-            greater = lesser + 2 * greater;
-        }
-        size /= 2;
-    }
-    if size == 8 {
-        above + lesser + 3 * greater
-    } else {
-        above + lesser + greater
-    }
-}
-
-#[cfg(test)]
-mod tests {
-    use super::node_count;
-
-    /// As document 01 puts it.
-    fn stated(edges: usize) -> usize {
-        if edges <= 8 {
-            1
-        } else {
-            1 + stated(edges / 2) + stated(edges - edges / 2)
-        }
-    }
-
-    #[test]
-    fn the_number_of_nodes_is_the_stated_one() {
-        for edges in 0..5_000 {
-            assert_eq!(node_count(edges), stated(edges));
-        }
-        for edges in [65_535, 65_536, 65_537, 1_000_000, 1_048_575, 1_048_576] {
-            assert_eq!(node_count(edges), stated(edges));
-        }
-        assert_eq!(node_count(1_048_576), 262_143);
     }
 }

@@ -1,8 +1,13 @@
 //! Why a call is refused, by number.
 
+use crate::text;
 use crate::{MAX_COORD, MAX_CORNERS, MAX_POINTS, MAX_POLYGONS, MAX_RINGS, MAX_TEXT, MAX_UNDO};
 use std::error::Error;
 use std::fmt;
+
+/// What to do about refusal 2.
+const MEND_LINE: &str = "mend it: `plan` comes first, alone or with `list` or `tree`, then `outer`, `hole` or `node` for a ring and `at` \
+    with x and y for a corner, with single tabs between fields and a line feed after each line";
 
 /// Why a call is refused. A refused call has changed nothing.
 #[derive(Clone, Copy, Debug, PartialEq, Eq, Hash)]
@@ -34,6 +39,7 @@ pub enum Refusal {
 
 /// The tables that the library is lent, in the order in which refusal 11 looks at them.
 #[derive(Clone, Copy, Debug, PartialEq, Eq, Hash)]
+#[non_exhaustive]
 pub enum Table {
     /// The corners.
     Corners,
@@ -65,14 +71,37 @@ impl Refusal {
         }
     }
 
-    /// The refusal of a number that the library answers, with the table that 11 names. The exports answer no line (2) and no text (1).
-    pub(crate) fn of_number(number: usize, table: usize) -> Refusal {
+    /// The message, with what is wrong in the line of the refused text that refusal 2 names. Any other refusal says what it always does.
+    ///
+    /// ```
+    /// # use findspot::Plan;
+    /// let text = b"plan\nouter\nat 0 0\n";
+    /// let refusal = Plan::from_text(text).unwrap_err();
+    /// assert!(refusal.explain(text).starts_with(
+    ///     "refusal 2: line 3 breaks the format: it has a space where a tab is due; mend it: "
+    /// ));
+    /// ```
+    pub fn explain(self, text: &[u8]) -> String {
+        match self {
+            Refusal::BadLine(line) => format!(
+                "refusal {}: line {line} breaks the format: {}; {MEND_LINE}",
+                self.number(),
+                text::fault(text, line)
+            ),
+            _ => self.to_string(),
+        }
+    }
+
+    /// The refusal of a number that the library answers, with the line that 2 names or the table that 11 names.
+    pub(crate) fn of_number(number: usize, detail: usize) -> Refusal {
         match number {
+            1 => Refusal::TextTooLong,
+            2 => Refusal::BadLine(detail),
             3 => Refusal::Uneven,
             4 => Refusal::TooMany,
             5 => Refusal::NoSuchCorner,
             6 => Refusal::PlaceOutOfRange,
-            11 => Refusal::TableTooShort(Table::of_number(table)),
+            11 => Refusal::TableTooShort(Table::of_number(detail)),
             12 => Refusal::PlanOutOfRange,
             13 => Refusal::UndoFull,
             14 => Refusal::NothingToUndo,
@@ -116,11 +145,9 @@ impl fmt::Display for Refusal {
                 formatter,
                 "the text has more than {MAX_TEXT} bytes; hand a larger plan over as rings"
             ),
-            Refusal::BadLine(line) => write!(
-                formatter,
-                "line {line} breaks the format; mend it: `plan` comes first, alone or with `list` or `tree`, then `outer`, `hole` or \
-                 `node` for a ring and `at` with x and y for a corner, with single tabs between fields and a line feed after each line"
-            ),
+            Refusal::BadLine(line) => {
+                write!(formatter, "line {line} breaks the format; {MEND_LINE}")
+            }
             Refusal::Uneven => formatter.write_str(
                 "the plan's tables do not fit together; the ring lengths have to sum to the corners and, in a list, the ring counts \
                  to the rings, with a ring in each polygon",

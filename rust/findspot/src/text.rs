@@ -1,4 +1,4 @@
-//! Plans as text.
+//! Plans as text: the library reads them.
 
 use crate::library;
 use crate::location::Location;
@@ -7,10 +7,14 @@ use crate::point::Point;
 use crate::refusal::Refusal;
 use crate::{MAX_TEXT, prepared};
 
+// The bytes of the shortest lines that add a corner, open a ring and open a polygon.
+const CORNER_LINE: usize = b"at\t0\t0\n".len();
+const RING_LINE: usize = b"hole\n".len();
+const POLYGON_LINE: usize = b"outer\n".len();
+
 /// Where a point lies in the plan that a text holds (see [`Plan::from_text`]), ring by ring, in one call that prepares nothing.
 ///
-/// A point out of range, and any point of a plan with a corner out of range, is outside. Text and reply are both the proved library's; only
-/// the number of the line that is refused is found by this crate's own reader. It takes about 342 KB of stack.
+/// A point out of range, and any point of a plan with a corner out of range, is outside. It takes about 342 KB of stack.
 ///
 /// ```
 /// use findspot::{Location, Point, Refusal, locate_text};
@@ -25,93 +29,79 @@ use crate::{MAX_TEXT, prepared};
 /// [`Refusal::TextTooLong`] (1), else [`Refusal::BadLine`] (2) with the first line that breaks the format, whatever the point is.
 pub fn locate_text(text: &[u8], point: Point) -> Result<Location, Refusal> {
     match library::locate_text(text, point) {
-        -1 => Err(Refusal::TextTooLong),
-        -2 => Err(Refusal::BadLine(bad_line(text))),
+        -2 | -1 => Err(refusal_of(text)),
         place => Ok(prepared::location(place)),
     }
 }
 
-/// The first line of a refused text that breaks the format.
-fn bad_line(text: &[u8]) -> usize {
-    match read(text) {
-        Err(Refusal::BadLine(line)) => line,
-        other => panic!("the library refuses a line of a text that is read as {other:?}"),
-    }
+/// A line of a text, counted from 1 and without its line feed: empty where there is no such line. An unended last piece is a line.
+///
+/// ```
+/// use findspot::{Plan, Refusal, line};
+///
+/// let text = b"plan\nouter\nat\t0\n";
+/// let Err(Refusal::BadLine(number)) = Plan::from_text(text) else {
+///     panic!("a corner has two numbers");
+/// };
+/// assert_eq!(line(text, number), b"at\t0");
+/// ```
+pub fn line(text: &[u8], number: usize) -> &[u8] {
+    let span = library::line(text, number);
+    &text[span.offset..span.offset + span.length]
 }
 
-/// The plan that a text holds.
+/// The refusal of a text that holds no plan. A text is judged before a table is looked at, so none is lent.
+fn refusal_of(text: &[u8]) -> Refusal {
+    let reading = library::read_plan(text, &mut [], &mut [], &mut []);
+    Refusal::of_number(reading.refusal, reading.detail)
+}
+
+/// The plan that a text holds, read into tables that have room for what so many bytes can hold.
 pub(crate) fn read(text: &[u8]) -> Result<Plan, Refusal> {
-    if text.len() > MAX_TEXT {
-        return Err(Refusal::TextTooLong);
+    let bytes = text.len().min(MAX_TEXT);
+    let mut corners = vec![Point::default(); bytes / CORNER_LINE];
+    let mut lengths = vec![0; bytes / RING_LINE];
+    let mut counts = vec![0; bytes / POLYGON_LINE];
+    let reading = library::read_plan(text, &mut corners, &mut lengths, &mut counts);
+    if reading.refusal != 0 {
+        return Err(Refusal::of_number(reading.refusal, reading.detail));
     }
-    let mut plan = None;
-    let mut number = 0;
-    for line in text.split_inclusive(|&byte| byte == b'\n') {
-        number += 1;
-        plan = Some(after_line(plan, line).ok_or(Refusal::BadLine(number))?);
-    }
-    plan.ok_or(Refusal::BadLine(1))
+    corners.truncate(reading.corners);
+    lengths.truncate(reading.rings);
+    counts.truncate(reading.polygons);
+    let kind = Kind::of_number(reading.kind);
+    Ok(Plan::from_tables(kind, corners, lengths, counts))
 }
 
-/// What is read after one more line, or nothing where the line breaks the format.
-fn after_line(plan: Option<Plan>, line: &[u8]) -> Option<Plan> {
-    let line = line.strip_suffix(b"\n")?;
-    let mut fields = line.split(|&byte| byte == b'\t');
-    let fields = [fields.next(), fields.next(), fields.next(), fields.next()];
-    match plan {
-        None => header(fields),
-        Some(plan) => after_record(plan, fields),
+/// What breaks the format in the first line that does, as far as the line and the header tell. It is there for people to read: the library
+/// alone says which line it is.
+pub(crate) fn fault(text: &[u8], number: usize) -> &'static str {
+    let span = library::line(text, number);
+    let bytes = line(text, number);
+    if text.is_empty() {
+        return "the text is empty";
     }
-}
-
-/// Up to four fields of a line; none has more than three.
-type Fields<'a> = [Option<&'a [u8]>; 4];
-
-/// The plan that a first line begins.
-fn header(fields: Fields) -> Option<Plan> {
-    match fields {
-        [Some(b"plan"), None, ..] => Some(Plan::empty(Kind::List)),
-        [Some(b"plan"), Some(b"list"), None, _] => Some(Plan::empty(Kind::List)),
-        [Some(b"plan"), Some(b"tree"), None, _] => Some(Plan::empty(Kind::Tree)),
-        _ => None,
+    if span.offset + span.length == text.len() {
+        return "it is not ended by a line feed";
     }
-}
-
-/// A plan with what a further line adds.
-fn after_record(mut plan: Plan, fields: Fields) -> Option<Plan> {
-    match (plan.kind(), fields) {
-        (Kind::List, [Some(b"outer"), None, ..]) => {
-            plan.open_polygon();
-            plan.open_ring()?;
-        }
-        (Kind::List, [Some(b"hole"), None, ..]) => plan.open_ring()?,
-        (Kind::Tree, [Some(b"node"), None, ..]) => plan.open_ring()?,
-        (_, [Some(b"at"), Some(x), Some(y), None]) => {
-            plan.add_corner(Point::new(decimal(x)?, decimal(y)?))?
-        }
-        _ => return None,
+    if bytes.contains(&b'\r') {
+        return "it has a carriage return";
     }
-    Some(plan)
-}
-
-/// The number of a field: digits without a leading zero, after a minus sign if it is below zero.
-fn decimal(field: &[u8]) -> Option<i64> {
-    let digits = field.strip_prefix(b"-").unwrap_or(field);
-    let negative = digits.len() < field.len();
-    match digits {
-        [b'0'] => return (!negative).then_some(0),
-        [b'1'..=b'9', ..] => {}
-        _ => return None,
+    if bytes.contains(&b' ') {
+        return "it has a space where a tab is due";
     }
-    let mut number: i64 = 0;
-    for byte in digits {
-        let digit = i64::from(byte.checked_sub(b'0').filter(|digit| *digit < 10)?);
-        number = number.checked_mul(10)?;
-        number = if negative {
-            number.checked_sub(digit)?
-        } else {
-            number.checked_add(digit)?
-        };
+    let fields: Vec<&[u8]> = bytes.split(|&byte| byte == b'\t').collect();
+    match fields[..] {
+        [b""] => "it is empty",
+        [b"plan", ..] if number == 1 => "`plan` goes alone or with `list` or `tree`",
+        [b"plan", ..] => "there is one header, the first line",
+        _ if number == 1 => "the first line has to be the header `plan`",
+        [b"at", _, _] if number == 2 => "a corner needs a ring before it",
+        [b"at", _, _] => "a number is not decimal, of 64 bits and in its shortest form",
+        [b"at", ..] => "`at` goes with x and y",
+        [b"hole"] if line(text, 1) != b"plan\ttree" => "a hole needs an `outer` before it",
+        [b"outer" | b"hole" | b"node"] => "a list has `outer` and `hole`, a tree `node`",
+        [b"outer" | b"hole" | b"node", ..] => "the word that opens a ring goes alone",
+        _ => "it starts with none of the words `outer`, `hole`, `node` and `at`",
     }
-    Some(number)
 }

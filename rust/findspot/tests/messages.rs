@@ -198,6 +198,78 @@ fn a_message_is_the_number_what_is_wrong_and_what_to_do() {
     }
 }
 
+/// Texts, each with its first bad line and what is wrong with that line.
+const FAULTS: [(&[u8], usize, &str); 17] = [
+    (b"", 1, "the text is empty"),
+    (b"plan\nouter", 2, "it is not ended by a line feed"),
+    (b"plan\r\n", 1, "it has a carriage return"),
+    (
+        b"plan\nouter\nat 1 2\n",
+        3,
+        "it has a space where a tab is due",
+    ),
+    (b"plan\n\n", 2, "it is empty"),
+    (b"outer\n", 1, "the first line has to be the header `plan`"),
+    (
+        b"plan\tforest\n",
+        1,
+        "`plan` goes alone or with `list` or `tree`",
+    ),
+    (
+        b"plan\nouter\nplan\n",
+        3,
+        "there is one header, the first line",
+    ),
+    (b"plan\nat\t1\t2\n", 2, "a corner needs a ring before it"),
+    (
+        b"plan\nouter\nat\t01\t2\n",
+        3,
+        "a number is not decimal, of 64 bits and in its shortest form",
+    ),
+    (b"plan\nouter\nat\t1\n", 3, "`at` goes with x and y"),
+    (b"plan\nhole\n", 2, "a hole needs an `outer` before it"),
+    (
+        b"plan\ttree\nhole\n",
+        2,
+        "a list has `outer` and `hole`, a tree `node`",
+    ),
+    (
+        b"plan\nouter\nnode\n",
+        3,
+        "a list has `outer` and `hole`, a tree `node`",
+    ),
+    (
+        b"plan\nouter\t1\n",
+        2,
+        "the word that opens a ring goes alone",
+    ),
+    (
+        b"plan\nring\n",
+        2,
+        "it starts with none of the words `outer`, `hole`, `node` and `at`",
+    ),
+    (
+        b"plan\ttree\nnode\n\t\n",
+        3,
+        "it starts with none of the words `outer`, `hole`, `node` and `at`",
+    ),
+];
+
+#[test]
+fn what_is_wrong_with_a_line_is_said_beside_it() {
+    for (text, line, fault) in FAULTS {
+        let refusal = Plan::from_text(text).expect_err("it is refused");
+        assert_eq!(refusal, Refusal::BadLine(line), "{fault}");
+        let said = format!("line {line} breaks the format");
+        let explained = refusal
+            .to_string()
+            .replace(&said, &format!("{said}: {fault}"));
+        assert_eq!(refusal.explain(text), explained);
+    }
+    let other = Refusal::NothingToUndo;
+    assert_eq!(other.explain(b""), other.to_string());
+}
+
 #[test]
 fn every_number_of_document_01_is_among_them() {
     let numbers: BTreeSet<u8> = all().iter().map(|case| case.number).collect();

@@ -1,10 +1,10 @@
-//! The reader of plan text, which is this crate's own, against the library's, which is proved: they accept the same texts and read the same
-//! plans, as far as the places of points show. Texts are generated, then damaged.
+//! Plans from text: what is written is read, and a text's plan prepared and the text itself are answered and refused alike. Texts are
+//! generated, then damaged.
 
 mod common;
 
 use common::{Random, plan, point, text_of};
-use findspot::{MAX_TEXT, Plan, Point, Prepared, Refusal, locate_text};
+use findspot::{MAX_TEXT, Plan, Point, Prepared, Refusal, line, locate_text};
 
 const PLANS: u64 = 800;
 
@@ -40,8 +40,8 @@ const FIELDS: &[&str] = &[
     "half",
 ];
 
-/// Asserts that both readers say the same of a text; gives whether it is accepted.
-fn assert_read_alike(random: &mut Random, text: &[u8]) -> bool {
+/// Asserts that the plan of a text, prepared, and the text itself are answered alike; gives whether the text is accepted.
+fn assert_answered_alike(random: &mut Random, text: &[u8]) -> bool {
     let read = Plan::from_text(text);
     let prepare = |plan: &Plan| Prepared::new(plan).expect("a text's plan is accepted");
     let prepared = read.as_ref().map(prepare).map_err(|&refusal| refusal);
@@ -98,7 +98,7 @@ fn a_plan_written_and_read_is_the_plan() {
         let text = text_of(&plan, random.below(2) == 0);
         if text.len() <= MAX_TEXT {
             assert_eq!(Plan::from_text(&text).as_ref(), Ok(&plan));
-            assert!(assert_read_alike(random, &text));
+            assert!(assert_answered_alike(random, &text));
         } else {
             assert_eq!(Plan::from_text(&text), Err(Refusal::TextTooLong));
         }
@@ -106,7 +106,7 @@ fn a_plan_written_and_read_is_the_plan() {
 }
 
 #[test]
-fn both_readers_say_the_same_of_damaged_texts() {
+fn damaged_texts_and_their_plans_are_answered_alike() {
     let (mut accepted, mut refused) = (0, 0);
     for seed in 0..PLANS {
         let random = &mut Random::new(seed);
@@ -116,13 +116,31 @@ fn both_readers_say_the_same_of_damaged_texts() {
             if random.below(4) == 0 && !damaged_text.is_empty() {
                 damaged_text = damaged(random, &damaged_text);
             }
-            match assert_read_alike(random, &damaged_text) {
+            match assert_answered_alike(random, &damaged_text) {
                 true => accepted += 1,
                 false => refused += 1,
             }
         }
     }
     assert!(accepted > 500 && refused > 500, "{accepted}, {refused}");
+}
+
+#[test]
+fn a_line_is_a_part_of_its_text() {
+    for seed in 0..PLANS {
+        let random = &mut Random::new(seed);
+        let text = text_of(&plan(random), true);
+        let text = damaged(random, &text);
+        let pieces: Vec<&[u8]> = text.split(|&byte| byte == b'\n').collect();
+        for (number, piece) in (1..).zip(&pieces).step_by(pieces.len() / 16 + 1) {
+            let line = line(&text, number);
+            assert_eq!(&line, piece);
+            assert_eq!(line.as_ptr(), piece.as_ptr(), "line {number}");
+        }
+        for number in [0, pieces.len() + 1, usize::MAX] {
+            assert!(line(&text, number).is_empty());
+        }
+    }
 }
 
 #[test]

@@ -106,15 +106,15 @@ fn reply(plan: &Plan, query: Query) -> u8 {
 
 /// The answer to a list of points x, y, x, y, ..: the place of the first that is not outside, or the refusal number.
 pub fn first(state: State, judged: &Judged, points: &[i64]) -> Due<Result<Option<usize>, u64>> {
-    if !is_state(state) {
-        return Due::Settled(Err(15));
-    }
     if points.len() / 2 > MOST_POINTS {
         return Due::Settled(Err(4));
     }
     let (pairs, rest) = points.as_chunks::<2>();
     if !rest.is_empty() {
         return Due::Settled(Err(3));
+    }
+    if !is_state(state) {
+        return Due::Settled(Err(15));
     }
     let queries: Vec<Query> = pairs.iter().map(|&[x, y]| Query::grid(x, y)).collect();
     if state.out_of_range == 1 || !queries.iter().any(Query::in_range) {

@@ -3,9 +3,10 @@
 //! [`entry`] calls the library. [`expected`] gives the answers that are due, by a [`reader`] of plan
 //! text written from item 10 alone and by the rules of [`plans`]. [`writer`] makes texts of plans,
 //! [`damage`] breaks them, and [`examples`] holds two of them. [`exports`] calls the library on tables that
-//! it is lent, [`prepared`] keeps such tables, and [`soundness`] holds them to items 5 and 9.
+//! it is lent, [`prepared`] keeps such tables, and [`soundness`] holds them to items 5 and 9. [`reading`] calls it to read a text into tables.
 //! [`corrections`] says what a correction may do to them. [`damaged`] hands damaged input to every call, in
-//! memory that [`guard`] keeps, and [`due`] says what each is to answer.
+//! memory that [`guard`] keeps, and [`due`] says what each is to answer. [`stored`] reads tables of an earlier
+//! delivery.
 
 pub mod corrections;
 pub mod damage;
@@ -18,5 +19,7 @@ pub mod exports;
 pub mod guard;
 pub mod prepared;
 pub mod reader;
+pub mod reading;
 pub mod soundness;
+pub mod stored;
 pub mod writer;

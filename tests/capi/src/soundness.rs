@@ -39,7 +39,7 @@ fn hold(fact: bool, what: impl FnOnce() -> String) -> Result<(), String> {
     if fact { Ok(()) } else { Err(what()) }
 }
 
-/// That the tables hold the plan and nothing more, and its index by items 5 and 9, or else where they do not.
+/// That the tables begin with the plan, and its index by items 5 and 9, or else where they do not.
 pub fn check(plan: &Plan, prepared: &Prepared, cuts: Cuts) -> Result<(), String> {
     check_plan(plan, &prepared.tables)?;
     let nodes = node_count(plan.coordinates.len() / 2);
@@ -49,12 +49,15 @@ pub fn check(plan: &Plan, prepared: &Prepared, cuts: Cuts) -> Result<(), String>
     check_index(plan, &prepared.tables, cuts)
 }
 
-/// That the corner, ring and polygon tables hold the plan.
+/// That the corner, ring and polygon tables begin with the plan. What was lent beyond it is nobody's affair.
 fn check_plan(plan: &Plan, tables: &Tables) -> Result<(), String> {
     let held = [
-        ("corner", tables.corners == plan.coordinates),
-        ("ring", tables.rings == sums(&plan.ring_lengths)),
-        ("polygon", tables.polygons == sums(&plan.ring_counts)),
+        ("corner", tables.corners.starts_with(&plan.coordinates)),
+        ("ring", tables.rings.starts_with(&sums(&plan.ring_lengths))),
+        (
+            "polygon",
+            tables.polygons.starts_with(&sums(&plan.ring_counts)),
+        ),
     ];
     for (name, held) in held {
         hold(held, || format!("the {name} table is not the plan's"))?;
@@ -243,6 +246,24 @@ impl Check<'_> {
         };
         numbers[..left].iter().map(key).max() <= numbers[left..].iter().map(key).min()
     }
+}
+
+/// The smallest box of each node that a plan's index has, as its parts and its edge list name their edges; other rows are as they were.
+pub fn smallest_boxes(plan: &Plan, tables: &Tables) -> Vec<Rect> {
+    let rings = plan.rings();
+    let edges: Vec<(Point, Point)> = rings.iter().flat_map(|ring| edges(ring)).collect();
+    let mut boxes = tables.boxes.clone();
+    for (rect, &[first, count, _]) in boxes
+        .iter_mut()
+        .zip(&tables.parts)
+        .take(node_count(edges.len()))
+    {
+        let part = &tables.edges[first..first + count];
+        *rect = part
+            .iter()
+            .fold(EMPTY, |rect, &edge| around(rect, edges[edge]));
+    }
+    boxes
 }
 
 /// A box with an edge more.

@@ -213,7 +213,13 @@ fn numbers_that_are_no_kind_or_mark_get_15() {
             assert_eq!(prepared.tables.locate(wrong, query), -15);
             assert_eq!(prepared.tables.locate_by_rings(wrong, query), -15);
         }
-        assert_eq!(prepared.tables.first_not_outside(wrong, &[5, 5]), Err(15));
+        let first = |points: &[i64]| prepared.tables.first_not_outside(wrong, points);
+        assert_eq!(first(&[5, 5]), Err(15));
+        assert_eq!(first(&[]), Err(15));
+        // the list's own 4 and 3 come first
+        assert_eq!(first(&[5]), Err(3));
+        assert_eq!(first(&[5; 2 * POINTS + 2]), Err(4));
+        assert_eq!(first(&[5; 2 * POINTS + 3]), Err(4));
     }
     let mut tables = Tables::for_plan(&plan);
     let before = tables.clone();

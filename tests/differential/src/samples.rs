@@ -91,23 +91,19 @@ pub fn samples() -> Vec<Sample> {
     samples
 }
 
-/// The samples as files of the program `samples`: their names and contents, and the names in the order of its arguments.
-pub fn files() -> (Vec<(String, String)>, String) {
+/// The samples as files: their names and contents.
+pub fn files() -> Vec<(String, String)> {
     let mut files = Vec::new();
-    let mut arguments = String::new();
     for Sample {
         name,
         input,
         output,
     } in samples()
     {
-        for (ending, content) in [("input", input), ("output", output)] {
-            let file = format!("{name}.{ending}");
-            arguments.push_str(&format!("{file}\n"));
-            files.push((file, content));
-        }
+        files.push((format!("{name}.input"), input));
+        files.push((format!("{name}.output"), output));
     }
-    (files, arguments)
+    files
 }
 
 /// The plan's text under a header, and a line for each point.

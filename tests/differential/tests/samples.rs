@@ -6,16 +6,15 @@ use std::fs;
 use std::path::PathBuf;
 
 fn folder() -> PathBuf {
-    PathBuf::from(env!("CARGO_MANIFEST_DIR")).join("../../crates/samples")
+    PathBuf::from(env!("CARGO_MANIFEST_DIR")).join("../samples")
 }
 
 #[test]
 fn stored_samples_are_as_generated() {
-    let (files, arguments) = samples::files();
-    let stored = fs::read_dir(folder().join("data")).expect("crates/samples/data is there");
+    let stored = fs::read_dir(folder()).expect("tests/samples is there");
     let mut rest: BTreeMap<String, Vec<u8>> = stored
         .map(|entry| {
-            let path = entry.expect("a file of crates/samples/data").path();
+            let path = entry.expect("a file of tests/samples").path();
             let name = path
                 .file_name()
                 .expect("it has a name")
@@ -24,12 +23,10 @@ fn stored_samples_are_as_generated() {
             (name, fs::read(&path).expect("it can be read"))
         })
         .collect();
-    for (name, content) in files {
+    for (name, content) in samples::files() {
         assert!(rest.remove(&name) == Some(content.into_bytes()), "{name}");
     }
     assert!(rest.is_empty(), "no sample has {:?}", rest.keys());
-    let stored = fs::read_to_string(folder().join("args")).expect("crates/samples/args is there");
-    assert!(stored == arguments);
 }
 
 #[test]

@@ -31,7 +31,11 @@ pub struct Model {
 impl Model {
     /// A plan just prepared, with so many rows lent for undo records.
     pub fn new(plan: Plan, rows: usize) -> Model {
-        let stack = Vec::new();
+        Model::standing(plan, rows, Vec::new())
+    }
+
+    /// A plan as it stands, with the corner and the old place of each move that can be undone, the latest last.
+    pub fn standing(plan: Plan, rows: usize, stack: Vec<(usize, Point)>) -> Model {
         Model { plan, rows, stack }
     }
 

@@ -40,18 +40,7 @@ pub fn session(seed: u64, number: usize, size: Size, calls: usize, queries: usiz
 pub fn session_of(random: &mut Random, plan: Plan, calls: usize, queries: usize) -> Session {
     let undo_rows = random.pick(&[0, 1, 2, 3, 8, 8, 64, 64]);
     let mut model = Model::new(plan.clone(), undo_rows);
-    let call = |number: usize| {
-        let mostly_moves = (number / RUN).is_multiple_of(2);
-        let call = if mostly_moves == random.one_in(5) {
-            Call::Undo
-        } else {
-            some_move(random, model.plan())
-        };
-        // Refused or not, the next correction is of the plan that stands.
-        let _ = model.call(call);
-        call
-    };
-    let calls: Vec<Call> = (0..calls).map(call).collect();
+    let calls = corrections(random, &mut model, calls);
     let mut asked = points::queries(random, &plan, queries / 2);
     asked.extend(points::queries(random, model.plan(), queries - queries / 2));
     Session {
@@ -64,7 +53,24 @@ pub fn session_of(random: &mut Random, plan: Plan, calls: usize, queries: usize)
     }
 }
 
-fn some_move(random: &mut Random, plan: &Plan) -> Call {
+/// So many corrections, one after another; the book makes each of them too.
+pub fn corrections(random: &mut Random, model: &mut Model, count: usize) -> Vec<Call> {
+    let call = |number: usize| {
+        let mostly_moves = (number / RUN).is_multiple_of(2);
+        let call = if mostly_moves == random.one_in(5) {
+            Call::Undo
+        } else {
+            some_move(random, model.plan())
+        };
+        // Refused or not, the next correction is of the plan that stands.
+        let _ = model.call(call);
+        call
+    };
+    (0..count).map(call).collect()
+}
+
+/// A move of some corner, or of one that there is not, to some place.
+pub fn some_move(random: &mut Random, plan: &Plan) -> Call {
     let corners = plan.coordinates.len() / 2;
     let corner = if corners == 0 || random.one_in(12) {
         random.pick(&[corners, corners + 1, 1 << 20, usize::MAX])

@@ -1,53 +1,45 @@
 -- `answers::answer` meets its contract.
+use mathlib.Core.Path.{sym}
 use native.Mathlib.Omega.{arith}
-use Rattle.answers.specs.Replies.{refusalLine}
-use Rattle.answers.proofs.Bounds.{refusal-short}
-use Rattle.answers.proofs.Outcomes.{long-input, small-input, short-output, answer-written}
+use lib.Seq.{length-take-le}
+use Rattle.answers.proofs.Outcomes.{within-space, short-output, answer-written}
 use borrow.Author.Needs.{needs}
 use Rattle.answers.proofs.answer.Statement.{statement}
 use Rattle.answers.proofs.answer.Tie as tie
 
-returns : tie.Need-returns
-returns c = short-output (c .before .before .before .args .input .now) (c .before .before .before .args .output .now) (c .if1 .taken)
+slice-aggregate-answer-whole : tie.Need-slice-aggregate-answer-whole
+slice-aggregate-answer-whole c = search needs
 
-put-refusal-requires : tie.Need-put-refusal-requires
-put-refusal-requires c κs = let h = c .before .before .if1 .left in let l = refusal-short 1 0 (omega arith) (omega arith) in omega arith
+answer-whole-requires : tie.Need-answer-whole-requires
+answer-whole-requires c κs = search needs
+
+returns : tie.Need-returns
+returns c = let a = c .before .before .before .before .before .before .args in let w = c .before .before .answer-whole in short-output (a .input .now) _ _ (w .result) (w .ensures) (a .output .now) (c .if1 .taken)
+
+array-share-prefix-whole : tie.Need-array-share-prefix-whole
+array-share-prefix-whole c = let w = c .before .before .before .answer-whole in within-space (c .before .before .before .before .before .before .before .args .input .now) _ _ (w .result) (w .ensures) (w .kept .1 .0)
+
+slice-aggregate-put : tie.Need-slice-aggregate-put
+slice-aggregate-put c = let w = c .before .before .before .before .answer-whole in sym (length-take-le (w .result) (w .last .1 .0) (within-space (c .before .before .before .before .before .before .before .before .args .input .now) _ _ (w .result) (w .ensures) (w .kept .1 .0)))
+
+put-requires : tie.Need-put-requires
+put-requires c κs = let w = c .before .before .before .before .answer-whole in let l = length-take-le (w .result) (w .last .1 .0) (within-space (c .before .before .before .before .before .before .before .before .args .input .now) _ _ (w .result) (w .ensures) (w .kept .1 .0)) in let h = c .before .before .if1 .left in omega arith
 
 same-length : tie.Need-same-length
 same-length c = search needs
 
 returns-2 : tie.Need-returns-2
-returns-2 c = let a = c .before .before .before .before .before .before .before .before .args in answer-written (a .input .now) (a .output .now) _ (refusalLine 1 0) (c .before .before .put-refusal .result) (c .before .before .before .before .before .if1 .left) (long-input (a .input .now) (c .before .before .before .before .if2 .taken)) (c .before .before .put-refusal .ensures)
-
-slice-aggregate-answer-in : tie.Need-slice-aggregate-answer-in
-slice-aggregate-answer-in c = search needs
-
-slice-aggregate-answer-in-2 : tie.Need-slice-aggregate-answer-in-2
-slice-aggregate-answer-in-2 c = search needs
-
-slice-aggregate-answer-in-3 : tie.Need-slice-aggregate-answer-in-3
-slice-aggregate-answer-in-3 c = search needs
-
-answer-in-requires : tie.Need-answer-in-requires
-answer-in-requires c κs = search needs
-
-same-length-2 : tie.Need-same-length-2
-same-length-2 c = search needs
-
-returns-3 : tie.Need-returns-3
-returns-3 c = let a = c .before .before .before .before .before .before .before .before .before .before .before .before .before .before .args in answer-written (a .input .now) (a .output .now) _ _ (c .before .before .before .before .before .answer-in .result) (c .before .before .before .before .before .before .before .before .before .before .before .if1 .left) (small-input (a .input .now) (c .before .before .before .before .before .before .before .before .before .before .if2 .left)) (c .before .before .before .before .before .answer-in .ensures)
+returns-2 c = let a = c .before .before .before .before .before .before .before .before .before .before .before .args in let w = c .before .before .before .before .before .before .before .answer-whole in answer-written (a .input .now) _ _ (w .result) (w .ensures) (a .output .now) _ _ (c .before .before .before .before .before .if1 .left) (c .before .before .put .ensures)
 
 pub answer-spec : {M : Type 1} → statement M
 answer-spec =
     tie.close
     (tie.spec
+    slice-aggregate-answer-whole
+    answer-whole-requires
     returns
-    put-refusal-requires
+    array-share-prefix-whole
+    slice-aggregate-put
+    put-requires
     same-length
-    returns-2
-    slice-aggregate-answer-in
-    slice-aggregate-answer-in-2
-    slice-aggregate-answer-in-3
-    answer-in-requires
-    same-length-2
-    returns-3)
+    returns-2)

@@ -70,7 +70,7 @@ same-length-2 : tie.Need-same-length-2
 same-length-2 c = search needs
 
 returns : tie.Need-returns
-returns c = record { corners-same = refl; boxes-same = refl; never = (rw (c .enum-told .given .1) at (c .before .before .before .before .before .before .find-ways .ensures)) (rooms c) }
+returns c = record { number = refl; corners-same = refl; boxes-same = refl; never = (rw (c .enum-told .given .1) at (c .before .before .before .before .before .before .find-ways .ensures)) (rooms c) }
 
 same-length-3 : tie.Need-same-length-3
 same-length-3 c = search needs

@@ -3,6 +3,7 @@ use mathlib.Core.Path.{refl, sym, _∙_}
 use Rattle.rules.specs.Plans.{Plan}
 use Rattle.prepare.specs.Tables.{Tables, roomOf}
 use Rattle.prepare.proofs.Indexing.{plan-fits, buildable, filled}
+use Rattle.prepare.proofs.Numbers.{prepared-as}
 use Rattle.prepare.proofs.Rooms.{given}
 use borrow.Author.Needs.{needs}
 use Rattle.prepare.proofs.prepare.Statement.{statement}
@@ -60,10 +61,10 @@ returns c =
     let tables : Tables = record { corners = a .corners .now; rings = a .rings .now; polygons = a .polygons .now; boxes = a .boxes .now; parts = a .parts .now; edges = a .edges .now } in
     let s = c .before .before .before .before .before .before .before .before .before .before .before .before .before .before .before .before .before .before .before .before .state .given in
     let answered = sym (s .1) ∙ c .before .before .before .before .before .before .before .before .before .before .before .before .before .before .before .before .before .before .before .before .before .before .answer .ensures in
-    record { answer = answered; tables = filled plan tables (s .0 .0) (s .0 .1 .0) (given plan (roomOf tables) (s .0 .0) (s .0 .1 .0) answered) _ (c .before .before .before .before .before .before .before .before .before .before .before .before .before .before .before .put-plan .ensures) (c .before .before .before .before .put-index .ensures) }
+    prepared-as plan tables _ _ answered (filled plan tables (s .0 .0) (s .0 .1 .0) (given plan (roomOf tables) (s .0 .0) (s .0 .1 .0) answered) _ (c .before .before .before .before .before .before .before .before .before .before .before .before .before .before .before .put-plan .ensures) (c .before .before .before .before .put-index .ensures))
 
 returns-2 : tie.Need-returns-2
-returns-2 c = record { answer = sym (c .before .refusal .given .1) ∙ c .before .before .before .answer .ensures; tables = refl }
+returns-2 c = prepared-as _ _ _ _ (sym (c .before .refusal .given .1) ∙ c .before .before .before .answer .ensures) refl
 
 pub prepare-spec : {M : Type 1} → statement M
 prepare-spec =

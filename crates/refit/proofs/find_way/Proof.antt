@@ -5,8 +5,9 @@ use Prim.Native.Nat.{_-_, _<_}
 use native.Mathlib.Omega.{arith}
 use lib.ListN.{length, getD}
 use Rattle.integers.proofs.Tests.{not-true, not-false}
+use Rattle.index.proofs.Tables.{kept-all, kept-wider}
 use Rattle.refit.specs.Paths.{PathTo, Lent}
-use Rattle.refit.proofs.Stopping.{sound-lent, way-found, never-stopped}
+use Rattle.refit.proofs.Stopping.{way-unlent, way-refused, way-found, never-stopped}
 use Rattle.refit.proofs.find_way.Statement.{statement}
 use Rattle.refit.proofs.find_way.Tie as tie
 
@@ -16,7 +17,7 @@ lent c = rw (not-false (c .before .lent-enough .result) (c .if1 .left)) at (c .b
 
 -- and the path that was found
 found : (c : tie.After-known-told) → let a = c .before .before .before .before .before .before .before .before .before .before .before .before .before .before .args in PathTo (a .n) (a .parts .now) (c .before .before .before .before .before .before .node-count .result) (a .k) (c .before .before .before .before .before .path-to .last .0) (c .before .depth .given .0 .0)
-found c = rw (c .before .depth .given .1) at (c .before .before .before .before .before .path-to .ensures)
+found c = rw (c .before .depth .given .1) at (c .before .before .before .before .before .path-to .ensures .0)
 
 -- its leaf is in the table
 leaf-in : (c : tie.After-known-told) → getD (c .before .before .before .before .before .path-to .last .0) (c .before .depth .given .0 .0 - 1) 0 < length (c .before .before .before .before .before .before .before .before .before .before .before .before .before .before .args .parts .now)
@@ -30,8 +31,7 @@ lent-enough-requires c κs = search needs
 returns : tie.Need-returns
 returns c =
     let a = c .before .before .before .before .before .before .args in
-    λ room space place corners boxes T. (rw (not-true (c .before .lent-enough .result) (c .if1 .taken)) at (c .before .lent-enough .ensures))
-    (sound-lent (a .n) (a .count) (a .rings .now) (a .parts .now) (a .edges .now) (a .k) (length (a .path .now)) (length (a .stops .now)) room space place corners boxes T)
+    way-unlent (a .n) (a .count) (a .rings .now) (a .parts .now) (a .edges .now) (a .k) (a .path .now) (a .stops .now) (rw (not-true (c .before .lent-enough .result) (c .if1 .taken)) at (c .before .lent-enough .ensures))
 
 node-count-requires : tie.Need-node-count-requires
 node-count-requires c κs = search needs
@@ -89,8 +89,12 @@ same-length-2 c = c .before .before .before .put-stops .kept .0
 returns-2 : tie.Need-returns-2
 returns-2 c =
     let a = c .before .before .before .before .before .before .before .before .before .before .before .before .before .before .before .before .before .before .before .before .before .before .args in
-    λ room space place. never-stopped (a .n) (a .count) (a .rings .now) (a .parts .now) (a .edges .now) (a .k) (c .before .before .before .before .before .before .before .before .before .before .before .before .before .path-to .last .0) (c .before .before .before .before .before .before .before .before .before .depth .given .0 .0) (c .before .before .before .before .before .before .before .before .before .before .before .before .before .before .node-count .result) (c .before .before .before .before .before .before .before .before .before .before .before .before .before .before .node-count .ensures) (found (c .before .before .before .before .before .before .before .before))
-    (rw (not-true (c .before .before .before .put-stops .result) (c .if2 .taken)) at (c .before .before .before .put-stops .ensures))
+    let L = lent (c .before .before .before .before .before .before .before .before .before .before .before .before .before .before .before .before) in
+    let path = c .before .before .before .before .before .before .before .before .before .before .before .before .before .path-to in
+    let stops = c .before .before .before .put-stops in
+    way-refused (a .n) (a .count) (a .rings .now) (a .parts .now) (a .edges .now) (a .k) (a .path .now) (a .stops .now) (path .last .0) (stops .last .0) L (path .ensures .1) (kept-wider _ 8 (a .stops .now) (stops .last .0) (found (c .before .before .before .before .before .before .before .before) .leaf .small) (stops .ensures .1))
+    (never-stopped (a .n) (a .count) (a .rings .now) (a .parts .now) (a .edges .now) (a .k) (c .before .before .before .before .before .before .before .before .before .before .before .before .before .path-to .last .0) (c .before .before .before .before .before .before .before .before .before .depth .given .0 .0) (c .before .before .before .before .before .before .before .before .before .before .before .before .before .before .node-count .result) (c .before .before .before .before .before .before .before .before .before .before .before .before .before .before .node-count .ensures) (found (c .before .before .before .before .before .before .before .before))
+    (rw (not-true (c .before .before .before .put-stops .result) (c .if2 .taken)) at (c .before .before .before .put-stops .ensures .0)))
 
 same-length-3 : tie.Need-same-length-3
 same-length-3 c = c .before .before .before .before .path-to .kept .0
@@ -98,7 +102,9 @@ same-length-3 c = c .before .before .before .before .path-to .kept .0
 returns-3 : tie.Need-returns-3
 returns-3 c =
     let a = c .before .before .before .before .before .before .before .before .before .before .before .before .before .args in
-    λ room space place corners boxes T. (rw (c .enum-told .given .1) at (c .before .before .before .before .path-to .ensures)) (a .count) corners (a .rings .now) boxes (a .edges .now) T
+    let path = c .before .before .before .before .path-to in
+    way-refused (a .n) (a .count) (a .rings .now) (a .parts .now) (a .edges .now) (a .k) (a .path .now) (a .stops .now) (path .last .0) (a .stops .now) (lent (c .before .before .before .before .before .before .before)) (path .ensures .1) (kept-all 8 (a .stops .now))
+    (λ corners boxes T. (rw (c .enum-told .given .1) at (path .ensures .0)) (a .count) corners (a .rings .now) boxes (a .edges .now) T)
 
 same-length-4 : tie.Need-same-length-4
 same-length-4 c = c .before .before .before .before .before .before .before .before .before .before .before .before .before .path-to .kept .0
@@ -112,10 +118,15 @@ returns-4 c =
     let L = lent (c .before .before .before .before .before .before .before .before .before .before .before .before .before .before .before .before) in
     let path = c .before .before .before .before .before .before .before .before .before .before .before .before .before .path-to in
     let stops = c .before .before .before .put-stops in
-    way-found (a .n) (a .count) (a .rings .now) (a .parts .now) (a .edges .now) (a .k) (path .last .0) (stops .last .0) (c .before .before .before .before .before .before .before .before .before .depth .given .0 .0) (c .before .before .before .before .before .before .before .before .before .before .before .before .before .before .node-count .result)
-    (subst (λ m. Lent (a .n) (a .count) (a .k) m (length (stops .last .0)) (a .rings .now) (length (a .parts .now)) (length (a .edges .now))) (sym (path .kept .0))
-    (subst (λ m. Lent (a .n) (a .count) (a .k) (length (a .path .now)) m (a .rings .now) (length (a .parts .now)) (length (a .edges .now))) (sym (stops .kept .0)) L))
-    (c .before .before .before .before .before .before .before .before .before .before .before .before .before .before .node-count .ensures) (found (c .before .before .before .before .before .before .before .before)) (rw (not-false (stops .result) (c .if2 .left)) at (stops .ensures))
+    record {
+      found =
+          way-found (a .n) (a .count) (a .rings .now) (a .parts .now) (a .edges .now) (a .k) (path .last .0) (stops .last .0) (c .before .before .before .before .before .before .before .before .before .depth .given .0 .0) (c .before .before .before .before .before .before .before .before .before .before .before .before .before .before .node-count .result)
+          (subst (λ m. Lent (a .n) (a .count) (a .k) m (length (stops .last .0)) (a .rings .now) (length (a .parts .now)) (length (a .edges .now))) (sym (path .kept .0))
+          (subst (λ m. Lent (a .n) (a .count) (a .k) (length (a .path .now)) m (a .rings .now) (length (a .parts .now)) (length (a .edges .now))) (sym (stops .kept .0)) L))
+          (c .before .before .before .before .before .before .before .before .before .before .before .before .before .before .node-count .ensures) (found (c .before .before .before .before .before .before .before .before)) (rw (not-false (stops .result) (c .if2 .left)) at (stops .ensures .0));
+      path-space = path .ensures .1;
+      stops-space = kept-wider _ 8 (a .stops .now) (stops .last .0) (found (c .before .before .before .before .before .before .before .before) .leaf .small) (stops .ensures .1);
+    }
 
 pub find-way-spec : {M : Type 1} → statement M
 find-way-spec =

@@ -1,16 +1,17 @@
 -- `refit::put_stops` meets its contract.
 use borrow.Author.Needs.{needs}
-use mathlib.Core.Path.{_≡_, refl, _∙_}
+use mathlib.Core.Path.{_≡_}
 use Prim.Native.Nat.{_-_, _≤_, _<_}
 use native.Mathlib.Omega.{arith}
-use lib.ListN.{length, length-set}
+use Rattle.index.specs.Build.{KeptFrom}
+use Rattle.index.proofs.Tables.{kept-all, kept-set}
 use Rattle.refit.specs.Paths.{Stops}
 use Rattle.refit.proofs.Stopping.{stops-none, stops-more, stop-outside, edge-outside}
 use Rattle.refit.proofs.put_stops.Statement.{statement}
 use Rattle.refit.proofs.put_stops.Tie as tie
 
 abbrev Inv-loop : tie.InvT-loop
-Inv-loop stops₀ rings edges n count first size ring₀ j₀ stops ring j = (j ≤ size) × (ring < count) × (length stops ≡ length stops₀) × Stops n count rings edges first j stops
+Inv-loop stops₀ rings edges n count first size ring₀ j₀ stops ring j = (j ≤ size) × (ring < count) × KeptFrom size stops₀ stops × Stops n count rings edges first j stops
 
 abbrev μ-loop : tie.MeasureT-loop
 μ-loop stops₀ rings edges n count first size ring₀ j₀ stops ring j = size - j
@@ -19,7 +20,7 @@ loop-holds : tie.Need-loop-holds Inv-loop μ-loop
 loop-holds c =
     let s = c .before .before .before in
     let a = s .args in
-    (omega arith, s .pre .0 .0, refl, stops-none (a .n) (a .count) (a .rings .now) (a .edges .now) (a .first) (a .stops .now))
+    (omega arith, s .pre .0 .0, kept-all (a .size) (a .stops .now), stops-none (a .n) (a .count) (a .rings .now) (a .edges .now) (a .first) (a .stops .now))
 
 add-e : tie.Need-add-e Inv-loop μ-loop
 add-e c = search needs
@@ -36,7 +37,7 @@ same-length c = search needs
 returns : tie.Need-returns Inv-loop μ-loop
 returns c =
     let a = c .before .before .before .before .before .before .before .args in
-    edge-outside (a .n) (a .count) (a .rings .now) (a .edges .now) (a .first) (a .size) (c .before .before .before .loop .j) (c .before .before .loop-test .taken) (c .if1 .taken)
+    (edge-outside (a .n) (a .count) (a .rings .now) (a .edges .now) (a .first) (a .size) (c .before .before .before .loop .j) (c .before .before .loop-test .taken) (c .if1 .taken), c .before .before .before .loop .inv .2)
 
 ring-near-requires : tie.Need-ring-near-requires Inv-loop μ-loop
 ring-near-requires c κs =
@@ -55,7 +56,7 @@ same-length-2 c = search needs
 returns-2 : tie.Need-returns-2 Inv-loop μ-loop
 returns-2 c =
     let a = c .before .before .before .before .before .before .before .before .before .before .args in
-    stop-outside (a .n) (a .count) (a .rings .now) (a .edges .now) (a .first) (a .size) (c .before .before .before .before .before .before .loop .j) (c .before .before .before .before .before .loop-test .taken) (c .before .before .ring-near .result) (c .before .before .ring-near .ensures) (c .before .next-corner .result) (c .before .next-corner .ensures) (c .if2 .taken)
+    (stop-outside (a .n) (a .count) (a .rings .now) (a .edges .now) (a .first) (a .size) (c .before .before .before .before .before .before .loop .j) (c .before .before .before .before .before .loop-test .taken) (c .before .before .ring-near .result) (c .before .before .ring-near .ensures) (c .before .next-corner .result) (c .before .next-corner .ensures) (c .if2 .taken), c .before .before .before .before .before .before .loop .inv .2)
 
 mul-stops : tie.Need-mul-stops Inv-loop μ-loop
 mul-stops c = search needs
@@ -77,7 +78,7 @@ loop-again c =
     let next = c .before .next-corner in (
       omega arith,
       ring .ensures .ring,
-      length-set (l .stops) (l .j) (next .result) ∙ l .inv .2,
+      kept-set (a .size) (a .stops .now) (l .stops) (l .j) (next .result) (omega arith) (l .inv .2),
       stops-more (a .n) (a .count) (a .rings .now) (a .edges .now) (a .first) (l .j) (l .stops) (l .inv .3) (omega arith) (ring .result) (ring .ensures) (c .before .before .before .if1 .left) (next .result) (next .ensures) (c .if2 .left),
     )
 
@@ -89,7 +90,7 @@ returns-3 c =
     let a = c .before .before .before .before .before .args in
     let l = c .before .loop in
     let e : l .j ≡ a .size = omega arith in
-    rw e at (l .inv .3)
+    (rw e at (l .inv .3), l .inv .2)
 
 pub put-stops-spec : {M : Type 1} → statement M
 put-stops-spec =

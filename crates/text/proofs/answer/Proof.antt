@@ -24,13 +24,13 @@ enum-known-line : tie.Need-enum-known-line
 enum-known-line c = search needs
 
 returns-2 : tie.Need-returns-2
-returns-2 c = let a = c .before .before .before .before .before .args in no-header (a .text .now) (a .corners) (a .rings) (a .polygons) (c .before .before .before .if1 .left) (sym (c .enum-told .given .1) ∙ c .before .before .judge .ensures)
+returns-2 c = let a = c .before .before .before .before .before .args in no-header (a .text .now) (a .corners) (a .rings) (a .polygons) (c .before .before .before .if1 .left) (sym (c .enum-told .given .1) ∙ c .before .before .judge .ensures .stage)
 
 returns-3 : tie.Need-returns-3
-returns-3 c = let a = c .before .before .before .before .before .before .before .args in c .room .ensures ∙ sized (a .text .now) (a .corners) (a .rings) (a .polygons) (c .before .before .before .before .before .if1 .left) (c .before .before .size .given .0 .0) (sym (c .before .before .size .given .1) ∙ c .before .before .before .before .judge .ensures)
+returns-3 c = let a = c .before .before .before .before .before .before .before .args in c .room .ensures ∙ sized (a .text .now) (a .corners) (a .rings) (a .polygons) (c .before .before .before .before .before .if1 .left) (c .before .before .size .given .0 .0) (sym (c .before .before .size .given .1) ∙ c .before .before .before .before .judge .ensures .stage)
 
 returns-4 : tie.Need-returns-4
-returns-4 c = let a = c .before .before .before .before .before .before .args in line-broken (a .text .now) (a .corners) (a .rings) (a .polygons) (c .before .before .before .before .if1 .left) (c .before .line .given .0 .0) (sym (c .before .line .given .1) ∙ c .before .before .before .judge .ensures)
+returns-4 c = let a = c .before .before .before .before .before .before .args in line-broken (a .text .now) (a .corners) (a .rings) (a .polygons) (c .before .before .before .before .if1 .left) (c .before .line .given .0 .0) (sym (c .before .line .given .1) ∙ c .before .before .before .judge .ensures .stage)
 
 pub answer-spec : {M : Type 1} → statement M
 answer-spec =

@@ -1,108 +1,29 @@
--- `text::line` meets its contract: the line that the search has come to, and its number.
-use Prim.Native.Nat.{_-_}
-use native.Mathlib.Omega.{arith}
+-- `text::line` meets its contract: the bytes of its span.
 use borrow.Author.Needs.{needs}
-use lib.ListN.{length}
-use Rattle.text.proofs.LineSearch.{both-below, second-above, Numbered, numbered-begun, starts, ends, numbered-onward, line-found, no-line}
+use Rattle.text.proofs.LineSearch.{span-taken}
 use Rattle.text.proofs.line.Statement.{statement}
 use Rattle.text.proofs.line.Tie as tie
 
-abbrev Inv-loop : tie.InvT-loop
-Inv-loop text k number₀ from₀ end₀ number from end = Numbered text k number from end
+line-span-requires : tie.Need-line-span-requires
+line-span-requires c κs = search needs
 
-abbrev μ-loop : tie.MeasureT-loop
-μ-loop text k number₀ from₀ end₀ number from end = length text - from
+add-end : tie.Need-add-end
+add-end c = search needs
 
-find-requires : tie.Need-find-requires Inv-loop μ-loop
-find-requires c κs = search needs
+sub-result : tie.Need-sub-result
+sub-result c = search needs
 
-loop-holds : tie.Need-loop-holds Inv-loop μ-loop
-loop-holds c =
-    let a = c .before .before .args in
-    numbered-begun (a .text .now) (a .k) (c .find .result) (c .find .ensures)
+part-result-start : tie.Need-part-result-start
+part-result-start c = search needs
 
-add-number : tie.Need-add-number Inv-loop μ-loop
-add-number c =
-    let a = c .before .before .before .before .args in
-    let l = c .before .loop in
-    let t = both-below (l .number) (a .k) (l .end) (length (a .text .now)) (c .loop-test .taken) in
-    let f = c .before .before .before .before .fits .k in
-    omega arith
+part-result-end : tie.Need-part-result-end
+part-result-end c = search needs
 
-add-from : tie.Need-add-from Inv-loop μ-loop
-add-from c =
-    let a = c .before .before .before .before .args in
-    let l = c .before .loop in
-    let t = both-below (l .number) (a .k) (l .end) (length (a .text .now)) (c .loop-test .taken) in
-    omega arith
-
-find-requires-2 : tie.Need-find-requires-2 Inv-loop μ-loop
-find-requires-2 c κs = search needs
-
-loop-less : tie.Need-loop-less Inv-loop μ-loop
-loop-less c =
-    let a = c .before .before .before .before .before .args in
-    let l = c .before .before .loop in
-    let t = both-below (l .number) (a .k) (l .end) (length (a .text .now)) (c .before .loop-test .taken) in
-    let s = starts (a .text .now) (a .k) (l .number) (l .from) (l .end) (l .inv) in
-    omega arith
-
-loop-again : tie.Need-loop-again Inv-loop μ-loop
-loop-again c =
-    let a = c .before .before .before .before .before .args in
-    let l = c .before .before .loop in
-    let t = both-below (l .number) (a .k) (l .end) (length (a .text .now)) (c .before .loop-test .taken) in
-    numbered-onward (a .text .now) (a .k) (l .number) (l .from) (l .end) (l .inv) (t .0) (t .1) (c .find2 .result) (c .find2 .ensures)
-
-sub-result : tie.Need-sub-result Inv-loop μ-loop
-sub-result c =
-    let l = c .before .before .loop in
-    let s = starts (c .before .before .before .before .before .args .text .now) (c .before .before .before .before .before .args .k) (l .number) (l .from) (l .end) (l .inv) in
-    omega arith
-
-part-result-start : tie.Need-part-result-start Inv-loop μ-loop
-part-result-start c =
-    let l = c .before .before .loop in
-    let s = starts (c .before .before .before .before .before .args .text .now) (c .before .before .before .before .before .args .k) (l .number) (l .from) (l .end) (l .inv) in
-    omega arith
-
-part-result-end : tie.Need-part-result-end Inv-loop μ-loop
-part-result-end c =
-    let l = c .before .before .loop in
-    let s = ends (c .before .before .before .before .before .args .text .now) (c .before .before .before .before .before .args .k) (l .number) (l .from) (l .end) (l .inv) in
-    omega arith
-
-returns : tie.Need-returns Inv-loop μ-loop
+returns : tie.Need-returns
 returns c =
-    let a = c .before .before .before .before .before .before .args in
-    let l = c .before .before .before .loop in
-    line-found (a .text .now) (a .k) (l .number) (l .from) (l .end) (l .inv) (c .before .if1 .taken)
-
-slice-aggregate-result : tie.Need-slice-aggregate-result Inv-loop μ-loop
-slice-aggregate-result c = search needs
-
-returns-2 : tie.Need-returns-2 Inv-loop μ-loop
-returns-2 c =
-    let a = c .before .before .before .before .before .before .args in
-    let l = c .before .before .before .loop in
-    no-line (a .text .now) (a .k) (l .number) (l .from) (l .end) (l .inv) (c .before .if1 .left) (second-above (l .number) (a .k) (l .end) (length (a .text .now)) (c .before .before .loop-test .left))
+    let a = c .before .before .before .before .args in
+    let l = c .before .before .line-span in
+    span-taken (a .text .now) (a .k) (l .result) (l .ensures)
 
 pub line-spec : {M : Type 1} → statement M
-line-spec =
-    tie.close
-    (tie.spec
-    Inv-loop
-    μ-loop
-    find-requires
-    loop-holds
-    add-number
-    add-from
-    find-requires-2
-    loop-less
-    loop-again
-    sub-result
-    part-result-start
-    part-result-end
-    returns
-    slice-aggregate-result
-    returns-2)
+line-spec = tie.close (tie.spec line-span-requires add-end sub-result part-result-start part-result-end returns)

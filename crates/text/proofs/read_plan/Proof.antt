@@ -1,7 +1,7 @@
 -- `text::read_plan` meets its contract.
 use mathlib.Core.Path.{refl, sym, _∙_}
 use lib.ListN.{length}
-use Rattle.text.proofs.Answers.{given}
+use Rattle.text.proofs.Answers.{given, read-as}
 use borrow.Author.Needs.{needs}
 use Rattle.text.proofs.read_plan.Statement.{statement}
 use Rattle.text.proofs.read_plan.Tie as tie
@@ -28,10 +28,10 @@ same-length-3 : tie.Need-same-length-3
 same-length-3 c = search needs
 
 returns : tie.Need-returns
-returns c = let w = c .before .before .before .before .before .write-plan .ensures in record { answer = sym (c .before .before .before .before .before .before .before .before .before .before .found .given .1) ∙ c .before .before .before .before .before .before .before .before .before .before .before .before .answer .ensures; corners-written = w .0; lengths-written = w .1; counts-written = w .2 }
+returns c = let w = c .before .before .before .before .before .write-plan .ensures in read-as _ _ _ _ _ _ _ _ (sym (c .before .before .before .before .before .before .before .before .before .before .found .given .1) ∙ c .before .before .before .before .before .before .before .before .before .before .before .before .answer .ensures) (w .0) (w .1) (w .2)
 
 returns-2 : tie.Need-returns-2
-returns-2 c = record { answer = sym (c .before .refusal .given .1) ∙ c .before .before .before .answer .ensures; corners-written = refl; lengths-written = refl; counts-written = refl }
+returns-2 c = read-as _ _ _ _ _ _ _ _ (sym (c .before .refusal .given .1) ∙ c .before .before .before .answer .ensures) refl refl refl
 
 pub read-plan-spec : {M : Type 1} → statement M
 read-plan-spec =

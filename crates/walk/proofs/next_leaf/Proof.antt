@@ -1,5 +1,6 @@
 -- `walk::next_leaf` meets its contract: node by node, until a leaf is in hand.
 use borrow.Author.Needs.{needs}
+use mathlib.Core.Path.{refl}
 use Prim.Native.Nat.{_-_}
 use native.Mathlib.Omega.{arith}
 use Rattle.integers.proofs.Tests.{not-true, not-false}
@@ -56,7 +57,7 @@ returns-3 : tie.Need-returns-3 Inv-loop μ-loop
 returns-3 c =
     let a = c .before .before .before .before .before .before .before .before .before .before .before .before .before .before .before .args in
     let l = c .before .before .before .before .before .before .before .before .before .before .loop in
-    going-never (a .n) (a .boxes .now) (a .parts .now) (a .edges .now) (a .query) (a .stack .now) (a .cursor) (l .stack) (l .here) (l .inv) (rw (c .enum-told .given .1) at (c .before .before .before .before .meet-node .ensures) (a .edges .now))
+    going-never (a .n) (a .boxes .now) (a .parts .now) (a .edges .now) (a .query) (a .stack .now) (a .cursor) (l .stack) (l .here) (l .inv) (c .before .before .before .before .before .before .before .before .if2 .taken) _ (rw (c .enum-told .given .1) at (c .before .before .before .before .meet-node .ensures))
 
 enum-known-further : tie.Need-enum-known-further Inv-loop μ-loop
 enum-known-further c = search needs
@@ -71,13 +72,13 @@ loop-again : tie.Need-loop-again Inv-loop μ-loop
 loop-again c =
     let a = c .before .before .before .before .before .before .before .before .before .before .before .before .before .before .before .before .args in
     let l = c .before .before .before .before .before .before .before .before .before .before .before .loop in
-    going-on (a .n) (a .boxes .now) (a .parts .now) (a .edges .now) (a .query) (a .stack .now) (a .cursor) (l .stack) (l .here) (l .inv) (c .before .before .before .before .before .before .before .before .before .if2 .taken) _ _ (c .before .before .before .before .before .meet-node .kept .0) (advanced c)
+    going-on (a .n) (a .boxes .now) (a .parts .now) (a .edges .now) (a .query) (a .stack .now) (a .cursor) (l .stack) (l .here) (l .inv) (c .before .before .before .before .before .before .before .before .before .if2 .taken) _ _ (advanced c)
 
 same-length-3 : tie.Need-same-length-3 Inv-loop μ-loop
 same-length-3 c = search needs
 
 returns-4 : tie.Need-returns-4 Inv-loop μ-loop
-returns-4 c = record { going = c .before .before .loop .inv; some = c .if2 .left }
+returns-4 c = record { number = refl; going = c .before .before .loop .inv; some = c .if2 .left }
 
 pub next-leaf-spec : {M : Type 1} → statement M
 next-leaf-spec =

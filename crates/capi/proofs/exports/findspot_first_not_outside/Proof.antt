@@ -1,7 +1,8 @@
 -- `capi::exports::findspot_first_not_outside` meets its contract.
-use mathlib.Core.Path.{sym, _∙_}
+use mathlib.Core.Path.{sym, ap, _∙_}
 use Rattle.prepared.specs.Firsts.{FirstSays}
 use Rattle.states.specs.States.{stateNamed}
+use Rattle.capi.specs.Exports.{firstNumbers}
 use Rattle.capi.proofs.Namings.{listed-unknown, listed-known}
 use borrow.Author.Needs.{needs}
 use Rattle.capi.proofs.exports.findspot_first_not_outside.Statement.{statement}
@@ -12,6 +13,9 @@ state-of-requires c κs = search needs
 
 enum-told : tie.Need-enum-told
 enum-told c = search needs
+
+unnamed-first-requires : tie.Need-unnamed-first-requires
+unnamed-first-requires c κs = search needs
 
 first-answer-requires : tie.Need-first-answer-requires
 first-answer-requires c κs = search needs
@@ -26,12 +30,14 @@ first-answer-requires-2 : tie.Need-first-answer-requires-2
 first-answer-requires-2 c κs = search needs
 
 returns : tie.Need-returns
-returns c = listed-unknown (stateNamed (c .before .before .before .before .before .before .before .args .state)) _ _ (sym (c .before .before .before .state-of .ensures) ∙ c .before .enum-told .given .1) (c .first-answer .ensures)
+returns c =
+    let a = c .before .before .before .before .before .before .before .before .args in
+    listed-unknown (stateNamed (a .state)) (a .points .now) _ _ (sym (c .before .before .before .before .state-of .ensures) ∙ c .before .before .enum-told .given .1) (c .first-answer .ensures ∙ ap firstNumbers (c .before .unnamed-first .ensures))
 
 returns-2 : tie.Need-returns-2
 returns-2 c =
     let a = c .before .before .before .before .before .before .before .before .before .args in
-    listed-known (stateNamed (a .state)) (c .before .before .before .known .given .0 .0) (λ state first. FirstSays state (a .corners .now) (a .rings .now) (a .polygons .now) (a .boxes .now) (a .parts .now) (a .edges .now) (a .points .now) first) (c .before .first-not-outside .result) _ (sym (c .before .before .before .before .before .state-of .ensures) ∙ c .before .before .before .known .given .1) (c .before .first-not-outside .ensures) (c .first-answer2 .ensures)
+    listed-known (stateNamed (a .state)) (a .points .now) (c .before .before .before .known .given .0 .0) (λ state first. FirstSays state (a .corners .now) (a .rings .now) (a .polygons .now) (a .boxes .now) (a .parts .now) (a .edges .now) (a .points .now) first) (c .before .first-not-outside .result) _ (sym (c .before .before .before .before .before .state-of .ensures) ∙ c .before .before .before .known .given .1) (c .before .first-not-outside .ensures) (c .first-answer2 .ensures)
 
 pub findspot-first-not-outside-spec : {M : Type 1} → statement M
 findspot-first-not-outside-spec =
@@ -39,6 +45,7 @@ findspot-first-not-outside-spec =
     (tie.spec
     state-of-requires
     enum-told
+    unnamed-first-requires
     first-answer-requires
     enum-known-known
     first-not-outside-requires

@@ -7,7 +7,7 @@ use Rattle.rules.specs.Plans.{planReply}
 use Rattle.rules.specs.Tables.{planOf}
 use Rattle.query.specs.Calls.{LookedUp}
 use Rattle.states.specs.States.{stateNamed}
-use Rattle.capi.proofs.Namings.{replied-unknown, replied-known}
+use Rattle.states.proofs.Replying.{replied-unknown, replied-known}
 use borrow.Author.Needs.{needs}
 use Rattle.capi.proofs.exports.findspot_locate_by_rings.Statement.{statement}
 use Rattle.capi.proofs.exports.findspot_locate_by_rings.Tie as tie

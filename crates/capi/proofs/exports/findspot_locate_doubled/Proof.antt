@@ -7,7 +7,7 @@ use Rattle.rules.specs.Plans.{planHalfReply}
 use Rattle.rules.specs.Tables.{planOf}
 use Rattle.prepared.specs.Calls.{Looked}
 use Rattle.states.specs.States.{stateNamed}
-use Rattle.capi.proofs.Namings.{replied-unknown, replied-known}
+use Rattle.states.proofs.Replying.{replied-unknown, replied-known}
 use borrow.Author.Needs.{needs}
 use Rattle.capi.proofs.exports.findspot_locate_doubled.Statement.{statement}
 use Rattle.capi.proofs.exports.findspot_locate_doubled.Tie as tie

@@ -7,7 +7,8 @@ use Rattle.model.specs.declared.Call.the-variants.{Move}
 use Rattle.model.specs.Prepared.{preparedOf}
 use Rattle.model.specs.Steps.{Step}
 use Rattle.states.specs.States.{stateNamed}
-use Rattle.capi.proofs.Namings.{correction-unknown, correction-known, place-read}
+use Rattle.states.proofs.Replying.{place-read}
+use Rattle.capi.proofs.Namings.{correction-unknown, correction-known}
 use borrow.Author.Needs.{needs}
 use Rattle.capi.proofs.moves.findspot_move.Statement.{statement}
 use Rattle.capi.proofs.moves.findspot_move.Tie as tie

@@ -47,7 +47,7 @@ returns : tie.Need-returns Inv-loop μ-loop
 returns c =
     let a = c .before .before .before .before .before .before .before .before .before .before .args in
     let l = c .before .before .before .before .before .loop in
-    λ S T. collecting-never (a .n) (a .count) (a .corners .now) (a .rings .now) (a .boxes .now) (a .parts .now) (a .edges .now) S (a .ray) (a .query) (a .p) (l .stack) (l .cursor) (l .here) (l .listed) (l .slots) (l .inv .5 S T) (rw (c .enum-told .given .1) at (c .before .before .before .next-leaf .ensures))
+    λ S T. collecting-never (a .n) (a .count) (a .corners .now) (a .rings .now) (a .boxes .now) (a .parts .now) (a .edges .now) S (a .ray) (a .query) (a .p) (l .stack) (l .cursor) (l .here) (l .listed) (l .slots) (l .inv .5 S T) ((rw (c .enum-told .given .1) at (c .before .before .before .next-leaf .ensures)) .never)
 
 enum-told-2 : tie.Need-enum-told-2 Inv-loop μ-loop
 enum-told-2 c = search needs
@@ -62,7 +62,7 @@ returns-2 : tie.Need-returns-2 Inv-loop μ-loop
 returns-2 c =
     let a = c .before .before .before .before .before .before .before .before .before .before .args in
     let l = c .before .before .before .before .before .loop in
-    record { room = l .inv .1; told = λ S T. collecting-end (a .n) (a .count) (a .corners .now) (a .rings .now) (a .boxes .now) (a .parts .now) (a .edges .now) S (a .ray) (a .query) (a .p) (l .stack) (l .cursor) (l .here) (l .listed) (l .slots) (l .inv .5 S T) (rw (c .enum-told2 .given .1) at (c .before .before .before .next-leaf .ensures)) }
+    record { room = l .inv .1; told = λ S T. collecting-end (a .n) (a .count) (a .corners .now) (a .rings .now) (a .boxes .now) (a .parts .now) (a .edges .now) S (a .ray) (a .query) (a .p) (l .stack) (l .cursor) (l .here) (l .listed) (l .slots) (l .inv .5 S T) (c .before .before .before .next-leaf .last .0) (rw (c .enum-told2 .given .1) at (c .before .before .before .next-leaf .ensures)) }
 
 enum-known-leaf : tie.Need-enum-known-leaf Inv-loop μ-loop
 enum-known-leaf c = search needs

@@ -47,7 +47,7 @@ returns : tie.Need-returns Inv-loop μ-loop
 returns c =
     let a = c .before .before .before .before .before .before .before .before .before .args in
     let l = c .before .before .before .before .before .loop in
-    λ S. crossing-never (a .n) (a .count) (a .corners .now) (a .rings .now) (a .boxes .now) (a .parts .now) (a .edges .now) S (a .query) (halfCrossingAt (a .n) (a .corners .now) (a .rings .now) (a .ray) (a .p)) (l .stack) (l .cursor) (l .odd) (l .inv .1 S) (rw (c .enum-told .given .1) at (c .before .before .before .next-leaf .ensures))
+    λ S. crossing-never (a .n) (a .count) (a .corners .now) (a .rings .now) (a .boxes .now) (a .parts .now) (a .edges .now) S (a .query) (halfCrossingAt (a .n) (a .corners .now) (a .rings .now) (a .ray) (a .p)) (l .stack) (l .cursor) (l .odd) (l .inv .1 S) ((rw (c .enum-told .given .1) at (c .before .before .before .next-leaf .ensures)) .never)
 
 enum-told-2 : tie.Need-enum-told-2 Inv-loop μ-loop
 enum-told-2 c = search needs
@@ -56,7 +56,7 @@ returns-2 : tie.Need-returns-2 Inv-loop μ-loop
 returns-2 c =
     let a = c .before .before .before .before .before .before .before .before .before .args in
     let l = c .before .before .before .before .before .loop in
-    λ S. crossing-end (a .n) (a .count) (a .corners .now) (a .rings .now) (a .boxes .now) (a .parts .now) (a .edges .now) S (a .query) (halfCrossingAt (a .n) (a .corners .now) (a .rings .now) (a .ray) (a .p)) (l .stack) (l .cursor) (l .odd) (l .inv .1 S) (rw (c .enum-told2 .given .1) at (c .before .before .before .next-leaf .ensures))
+    λ S. crossing-end (a .n) (a .count) (a .corners .now) (a .rings .now) (a .boxes .now) (a .parts .now) (a .edges .now) S (a .query) (halfCrossingAt (a .n) (a .corners .now) (a .rings .now) (a .ray) (a .p)) (l .stack) (l .cursor) (l .odd) (l .inv .1 S) (c .before .before .before .next-leaf .last .0) (rw (c .enum-told2 .given .1) at (c .before .before .before .next-leaf .ensures))
 
 enum-known-leaf : tie.Need-enum-known-leaf Inv-loop μ-loop
 enum-known-leaf c = search needs

@@ -80,7 +80,7 @@ returns : tie.Need-returns Inv-loop μ-loop
 returns c =
     let a = c .before .before .before .before .before .args in
     let l = c .before .before .loop in
-    c .at-end .ensures ∙ judged (a .text .now) (l .stage) (l .line) (l .from) (l .end) (l .inv) (c .before .loop-test .left)
+    judged (a .text .now) (l .stage) (l .line) (l .from) (l .end) (l .inv) (c .before .loop-test .left) (c .at-end .result) (c .at-end .ensures)
 
 pub judge-spec : {M : Type 1} → statement M
 judge-spec =

@@ -28,7 +28,7 @@ two-places-requires c κs = search needs
 returns : tie.Need-returns
 returns c =
     let a = c .before .before .before .before .before .args in
-    λ S one. (rw (c .enum-told .given .1) at (c .before .before .edge-at .ensures)) (edge-sound (a .n) (a .count) (a .corners .now) (a .rings .now) (a .boxes .now) (a .parts .now) (a .edges .now) S (a .i) one)
+    λ S one. (rw (c .enum-told .given .1) at (c .before .before .edge-at .ensures)) .never (edge-sound (a .n) (a .count) (a .corners .now) (a .rings .now) (a .boxes .now) (a .parts .now) (a .edges .now) S (a .i) one)
 
 returns-2 : tie.Need-returns-2
 returns-2 c =

@@ -33,12 +33,12 @@ enum-known-stops c = search needs
 returns : tie.Need-returns
 returns c =
     let a = c .before .before .before .before .before .args in
-    λ S first last. (rw (c .enum-told .given .1) at (c .before .before .place-of-edge .ensures)) (place-sound (a .n) (a .count) (a .corners .now) (a .rings .now) (a .boxes .now) (a .parts .now) (a .edges .now) S (a .i) first)
+    λ S first last. (rw (c .enum-told .given .1) at (c .before .before .place-of-edge .ensures)) .never (place-sound (a .n) (a .count) (a .corners .now) (a .rings .now) (a .boxes .now) (a .parts .now) (a .edges .now) S (a .i) first)
 
 returns-2 : tie.Need-returns-2
 returns-2 c =
     let a = c .before .before .before .before .before .before .before .before .before .args in
-    λ S first last. (rw (c .enum-told2 .given .1) at (c .before .before .place-of-edge2 .ensures)) (place-sound (a .n) (a .count) (a .corners .now) (a .rings .now) (a .boxes .now) (a .parts .now) (a .edges .now) S (a .before) last)
+    λ S first last. (rw (c .enum-told2 .given .1) at (c .before .before .place-of-edge2 .ensures)) .never (place-sound (a .n) (a .count) (a .corners .now) (a .rings .now) (a .boxes .now) (a .parts .now) (a .edges .now) S (a .before) last)
 
 returns-3 : tie.Need-returns-3
 returns-3 c =

@@ -1,5 +1,6 @@
 -- `placing::ways::two_ways` meets its contract.
 use Rattle.placing.proofs.Finding.{refit-sound}
+use native.Mathlib.Omega.{arith}
 use borrow.Author.Needs.{needs}
 use Rattle.placing.proofs.ways.two_ways.Statement.{statement}
 use Rattle.placing.proofs.ways.two_ways.Tie as tie
@@ -31,7 +32,8 @@ same-length-2 c = search needs
 returns : tie.Need-returns
 returns c =
     let a = c .before .before .before .before .before .before .before .before .before .before .before .before .before .before .before .args in
-    λ room one other corners boxes S. (rw (c .enum-told .given .1) at (c .before .before .before .before .before .before .find-way .ensures)) (room .path-room) (room .stops-room) one corners boxes (refit-sound (a .n) (a .count) corners (a .rings .now) boxes (a .parts .now) (a .edges .now) S)
+    let r = rw (c .enum-told .given .1) at (c .before .before .before .before .before .before .find-way .ensures) in
+    λ room one other corners boxes S. r .never (omega (arith, room .path-room, r .path-space .long)) (omega (arith, room .stops-room, r .stops-space .long)) one corners boxes (refit-sound (a .n) (a .count) corners (a .rings .now) boxes (a .parts .now) (a .edges .now) S)
 
 same-length-3 : tie.Need-same-length-3
 same-length-3 c = search needs
@@ -48,7 +50,8 @@ same-length-6 c = search needs
 returns-2 : tie.Need-returns-2
 returns-2 c =
     let a = c .before .before .before .before .before .before .before .before .before .before .before .before .before .before .before .before .before .before .before .before .before .before .before .before .before .args in
-    λ room one other corners boxes S. (rw (c .enum-told2 .given .1) at (c .before .before .before .before .before .before .find-way2 .ensures)) (room .path₂-room) (room .stops₂-room) other corners boxes (refit-sound (a .n) (a .count) corners (a .rings .now) boxes (a .parts .now) (a .edges .now) S)
+    let r = rw (c .enum-told2 .given .1) at (c .before .before .before .before .before .before .find-way2 .ensures) in
+    λ room one other corners boxes S. r .never (omega (arith, room .path₂-room, r .path-space .long)) (omega (arith, room .stops₂-room, r .stops-space .long)) other corners boxes (refit-sound (a .n) (a .count) corners (a .rings .now) boxes (a .parts .now) (a .edges .now) S)
 
 same-length-7 : tie.Need-same-length-7
 same-length-7 c = search needs
@@ -63,7 +66,10 @@ same-length-10 : tie.Need-same-length-10
 same-length-10 c = search needs
 
 returns-3 : tie.Need-returns-3
-returns-3 c = record { one = rw (c .before .before .before .before .before .before .before .before .before .before .before .depth .given .1) at (c .before .before .before .before .before .before .before .before .before .before .before .before .before .before .before .before .before .find-way .ensures); other = rw (c .before .other-depth .given .1) at (c .before .before .before .before .before .before .before .find-way2 .ensures) }
+returns-3 c =
+    let one = rw (c .before .before .before .before .before .before .before .before .before .before .before .depth .given .1) at (c .before .before .before .before .before .before .before .before .before .before .before .before .before .before .before .before .before .find-way .ensures) in
+    let other = rw (c .before .other-depth .given .1) at (c .before .before .before .before .before .before .before .find-way2 .ensures) in
+    record { one = one .found; other = other .found }
 
 pub two-ways-spec : {M : Type 1} → statement M
 two-ways-spec =

@@ -17,7 +17,7 @@ returns : tie.Need-returns
 returns c =
     let a = c .before .before .before .before .before .before .args in
     let plan : Plan = record { kind = a .kind; coordinates = a .coordinates .now; lengths = a .lengths .now; counts = a .counts .now } in
-    refused-first plan (a .room) (c .before .refusal .given .0 .0) (sym (c .before .before .before .judge .ensures) ∙ c .before .refusal .given .1)
+    refused-first plan (a .room) (c .before .refusal .given .0 .0) (sym (c .before .before .before .judge .ensures .verdict) ∙ c .before .refusal .given .1)
 
 enum-told : tie.Need-enum-told
 enum-told c = search needs
@@ -34,7 +34,7 @@ returns-2 c =
     let plan : Plan = record { kind = a .kind; coordinates = a .coordinates .now; lengths = a .lengths .now; counts = a .counts .now } in
     c .with-room .ensures
     ∙ ap (λ state. withRoom state (a .room)) (c .before .state-of .ensures)
-    ∙ accepted-next plan (a .room) (sym (c .before .before .before .before .judge .ensures) ∙ c .before .before .enum-told .given .1)
+    ∙ accepted-next plan (a .room) (sym (c .before .before .before .before .judge .ensures .verdict) ∙ c .before .before .enum-told .given .1)
 
 pub answer-spec : {M : Type 1} → statement M
 answer-spec =

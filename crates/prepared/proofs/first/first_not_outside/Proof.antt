@@ -24,13 +24,13 @@ enum-known-refusal : tie.Need-enum-known-refusal Inv-loop μ-loop
 enum-known-refusal c = search needs
 
 returns : tie.Need-returns Inv-loop μ-loop
-returns c = let a = c .before .before .before .before .before .before .before .args in says-judged (a .state) (a .corners .now) (a .rings .now) (a .polygons .now) (a .boxes .now) (a .parts .now) (a .edges .now) (a .points .now) (c .before .refusal .given .0 .0) (sym (c .before .before .before .judge-points .ensures) ∙ c .before .refusal .given .1)
+returns c = let a = c .before .before .before .before .before .before .before .args in says-judged (a .state) (a .corners .now) (a .rings .now) (a .polygons .now) (a .boxes .now) (a .parts .now) (a .edges .now) (a .points .now) (c .before .refusal .given .0 .0) (sym (c .before .before .before .judge-points .ensures .verdict) ∙ c .before .refusal .given .1)
 
 enum-told : tie.Need-enum-told Inv-loop μ-loop
 enum-told c = search needs
 
 loop-holds : tie.Need-loop-holds Inv-loop μ-loop
-loop-holds c = let a = c .before .before .before .before .before .before .args in going-none (a .state) (a .corners .now) (a .rings .now) (a .polygons .now) (a .boxes .now) (a .parts .now) (a .edges .now) (a .points .now) (sym (c .before .before .judge-points .ensures) ∙ c .enum-told .given .1)
+loop-holds c = let a = c .before .before .before .before .before .before .args in going-none (a .state) (a .corners .now) (a .rings .now) (a .polygons .now) (a .boxes .now) (a .parts .now) (a .edges .now) (a .points .now) (sym (c .before .before .judge-points .ensures .verdict) ∙ c .enum-told .given .1)
 
 corner-at-requires : tie.Need-corner-at-requires Inv-loop μ-loop
 corner-at-requires c κs = let h = c .loop-test .taken in omega arith

@@ -21,14 +21,14 @@ enum-known-refusal c = search needs
 
 returns : tie.Need-returns
 returns c = let a = c .before .before .before .before .before .before .args in
-    sym (ap (λ verdict. answer verdict (planHalfReply (record { kind = a .kind; coordinates = a .coordinates .now; lengths = a .lengths .now; counts = a .counts .now }) (a .p))) (sym (c .before .before .before .judge .ensures) ∙ c .before .refusal .given .1))
+    sym (ap (λ verdict. answer verdict (planHalfReply (record { kind = a .kind; coordinates = a .coordinates .now; lengths = a .lengths .now; counts = a .counts .now }) (a .p))) (sym (c .before .before .before .judge .ensures .verdict) ∙ c .before .refusal .given .1))
 
 enum-told : tie.Need-enum-told
 enum-told c = search needs
 
 -- the plan is accepted
 accepted : (c : tie.After-enum-told) → let a = c .before .before .before .before .before .args in planVerdict (record { kind = a .kind; coordinates = a .coordinates .now; lengths = a .lengths .now; counts = a .counts .now }) ≡ Accepted
-accepted c = sym (c .before .before .judge .ensures) ∙ c .enum-told .given .1
+accepted c = sym (c .before .before .judge .ensures .verdict) ∙ c .enum-told .given .1
 
 in-doubled-range-requires : tie.Need-in-doubled-range-requires
 in-doubled-range-requires c κs = search needs

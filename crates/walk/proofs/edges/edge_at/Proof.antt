@@ -1,6 +1,6 @@
 -- `walk::edges::edge_at` meets its contract.
 use borrow.Author.Needs.{needs}
-use mathlib.Core.Path.{ap, _∙_}
+use mathlib.Core.Path.{refl, ap, _∙_}
 use Prim.Native.Nat.{_≤_}
 use native.Mathlib.Omega.{arith}
 use lib.ListN.{length}
@@ -47,7 +47,7 @@ corner-at-requires-2 c κs = search needs
 returns-4 : tie.Need-returns-4
 returns-4 c =
     let a = c .before .before .before .before .before .before .args in
-    λ S. rw (c .enum-told .given .1) at (c .before .before .ring-at .ensures) (a .n) (S .ends) (S .one)
+    record { number = refl; never = λ S. rw (c .enum-told .given .1) at (c .before .before .ring-at .ensures) (a .n) (S .ends) (S .one) }
 
 returns-5 : tie.Need-returns-5
 returns-5 c =

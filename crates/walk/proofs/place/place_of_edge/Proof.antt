@@ -1,5 +1,6 @@
 -- `walk::place::place_of_edge` meets its contract.
 use borrow.Author.Needs.{needs}
+use mathlib.Core.Path.{refl}
 use Rattle.walk.specs.Edges.{EdgeFound}
 use Rattle.walk.proofs.Seeking.{walked-says}
 use Rattle.walk.proofs.place.place_of_edge.Statement.{statement}
@@ -25,7 +26,7 @@ walk-to-requires : tie.Need-walk-to-requires
 walk-to-requires c κs = search needs
 
 returns : tie.Need-returns
-returns c = λ S. rw (c .enum-told .given .1) at (c .before .before .edge-at .ensures) (S .edge)
+returns c = let r = rw (c .enum-told .given .1) at (c .before .before .edge-at .ensures) in record { number = refl; never = λ S. r .never (S .edge) }
 
 returns-2 : tie.Need-returns-2
 returns-2 c =

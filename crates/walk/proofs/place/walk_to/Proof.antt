@@ -59,7 +59,7 @@ returns-2 : tie.Need-returns-2 Inv-loop μ-loop
 returns-2 c =
     let a = c .before .before .before .before .before .before .before .before .args in
     let l = c .before .before .before .before .before .loop in
-    seeking-ended (a .n) (a .boxes .now) (a .parts .now) (a .edges .now) (a .wanted) (a .e) (l .stack) (l .cursor) (l .inv) (rw (c .enum-told .given .1) at (c .before .before .before .next .ensures))
+    seeking-ended (a .n) (a .boxes .now) (a .parts .now) (a .edges .now) (a .wanted) (a .e) (l .stack) (l .cursor) (l .inv) (c .before .before .before .next .last .0) (rw (c .enum-told .given .1) at (c .before .before .before .next .ensures))
 
 enum-told-2 : tie.Need-enum-told-2 Inv-loop μ-loop
 enum-told-2 c = search needs
@@ -68,7 +68,7 @@ returns-3 : tie.Need-returns-3 Inv-loop μ-loop
 returns-3 c =
     let a = c .before .before .before .before .before .before .before .before .args in
     let l = c .before .before .before .before .before .loop in
-    seeking-never (a .n) (a .boxes .now) (a .parts .now) (a .edges .now) (a .wanted) (a .e) (l .stack) (l .cursor) (l .inv) (rw (c .enum-told2 .given .1) at (c .before .before .before .next .ensures))
+    seeking-never (a .n) (a .boxes .now) (a .parts .now) (a .edges .now) (a .wanted) (a .e) (l .stack) (l .cursor) (l .inv) ((rw (c .enum-told2 .given .1) at (c .before .before .before .next .ensures)) .never)
 
 pub walk-to-spec : {M : Type 1} → statement M
 walk-to-spec =

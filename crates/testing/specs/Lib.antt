@@ -1,0 +1,4 @@
+pub mod Named
+pub mod Walks
+pub mod Builds
+pub mod Leaves
