@@ -11,6 +11,7 @@ use Rattle.geom.specs.declared.Point.{Point}
 use Rattle.geom.specs.Boxes.{holdsRect}
 use Rattle.geom.specs.Range.{inRange}
 use Rattle.predicates.specs.Turn.{orientation, onSegment}
+use Rattle.rules.specs.declared.Location.{Location}
 use Rattle.rules.specs.declared.Location.the-variants.{Outside, Inside}
 use Rattle.rules.specs.declared.Refusal.{Refusal}
 use Rattle.rules.specs.declared.Refusal.the-variants.{PlaceOutOfRange, UndoFull, NothingToUndo, Unsound}
@@ -35,7 +36,7 @@ use Rattle.model.specs.Entries.{putCorner, putBack, entryIn, isRecorded}
 use Rattle.model.specs.Prepared.{Prepared, planHeld, Sound}
 use Rattle.model.specs.Steps.{refusing, early, Corrected, movedState, Moves, TakesBack, isLookUp, Step}
 use Rattle.model.proofs.Corners.{corner-put, corner-other}
-use Rattle.model.proofs.Ways.{true-false, accepted-refused, always-recorded, early-move}
+use Rattle.model.proofs.Ways.{true-false, at-refused, accepted-refused, always-recorded, early-move}
 use Rattle.model.proofs.Worked.{at, tables, fresh, twoMoves, moved-twice}
 
 pub record Given : Type 0 where
@@ -154,12 +155,21 @@ pub nothing-refused : (f : Engine) → Meets f → ((d : Prepared) → f Undo d 
 nothing-refused f meets wrong = accepted-refused NothingToUndo (sym (wrong first) ∙ meets Undo first .settled (Refused NothingToUndo) refl .0)
 
 -- 15 never given: a corner table that is too short, and a latest record that names no corner, or a place out of range
-abbrev cutShort : Prepared
-cutShort = record { state = first .state; corners = []; rings = first .rings; polygons = first .polygons; boxes = first .boxes; parts = first .parts; edges = first .edges; undo = first .undo }
+abbrev withoutCorners : Prepared → Prepared
+withoutCorners d = record { state = d .state; corners = []; rings = d .rings; polygons = d .polygons; boxes = d .boxes; parts = d .parts; edges = d .edges; undo = d .undo }
 
-pub short-accepted : (f : Engine) → Meets f → ((i : ℕ) (place : Point) (d : Prepared) → f (Move i place) d .answer ≡ Accepted) → ⊥
-short-accepted f meets wrong =
-    accepted-refused Unsound (sym (wrong 1 (at (pos 20) (pos 0)) cutShort) ∙ meets (Move 1 (at (pos 20) (pos 0))) cutShort .short (early-move cutShort 1 (at (pos 20) (pos 0))) (λ R. let h = R .corners in omega arith))
+pub short-moved : (f : Engine) → Meets f → f (Move 1 (at (pos 20) (pos 0))) (withoutCorners first) .answer ≡ Accepted → ⊥
+short-moved f meets wrong =
+    accepted-refused Unsound (sym wrong ∙ meets (Move 1 (at (pos 20) (pos 0))) (withoutCorners first) .short (early-move (withoutCorners first) 1 (at (pos 20) (pos 0))) (λ R. let h = R .corners in omega arith))
+
+pub short-undone : (f : Engine) → Meets f → f Undo (withoutCorners later) .answer ≡ Accepted → ⊥
+short-undone f meets wrong = accepted-refused Unsound (sym wrong ∙ meets Undo (withoutCorners later) .short refl (λ R. let h = R .corners in omega arith))
+
+pub short-answered : (f : Engine) → Meets f → (location : Location) → f (Locate (at (pos 1) (pos 1))) (withoutCorners first) .answer ≡ At location → ⊥
+short-answered f meets location wrong = at-refused location Unsound (sym wrong ∙ meets (Locate (at (pos 1) (pos 1))) (withoutCorners first) .short refl (λ R. let h = R .corners in omega arith))
+
+pub short-answered-doubled : (f : Engine) → Meets f → (location : Location) → f (LocateDoubled (at (pos 1) (pos 1))) (withoutCorners first) .answer ≡ At location → ⊥
+short-answered-doubled f meets location wrong = at-refused location Unsound (sym wrong ∙ meets (LocateDoubled (at (pos 1) (pos 1))) (withoutCorners first) .short refl (λ R. let h = R .corners in omega arith))
 
 abbrev noCorner : Prepared
 noCorner = tables (pos 30) 1 ((pos 3 ∷ pos 10 ∷ pos 0 ∷ []) ∷ [])

@@ -101,7 +101,7 @@ module _ (n : ℕ) (before : List ℤ) (rings : List ℕ) (boxes₀ : List (List
   leaf-sound count reach ends p l = λ i. place-sound p l i && fits-test n count corners rings edges (getD nodes p noNode) (leaf-fits count reach ends p l) i
 
   pub cut-sound : (p : ℕ) → p < nodeCount n → 8 < countAt (partRows nodes) p → cutSound nodes p ≡ true
-  cut-sound p l big = λ i. place-sound p l i && lt-ltb (getD nodes p noNode .child + 1) (length nodes) (children-listed p l big) i
+  cut-sound p l big = λ i. place-sound p l i && (lt-ltb 8 (getD nodes p noNode .count) (omega (arith, big, count-is nodes p (listed p l))) i && lt-ltb (getD nodes p noNode .child + 1) (length nodes) (children-listed p l big) i)
 
   -- a cut node's box is the smallest if its children's are
   pub cut-refit-smallest : (p : ℕ) → p < nodeCount n → 8 < countAt (partRows nodes) p → Smallest corners rings edges (partRows nodes) (boxRows nodes) (childAt (partRows nodes) p) → Smallest corners rings edges (partRows nodes) (boxRows nodes) (childAt (partRows nodes) p + 1)

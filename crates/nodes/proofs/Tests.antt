@@ -1,4 +1,4 @@
--- The tests that a refit makes first: what passes for each number below a bound, two children below a length, ring ends that rise, a part
+-- The tests that a refit makes first: what passes for each number below a bound, a node's two children below a length, ring ends that rise, a part
 -- that names edges, and with these two what the box of a part is made of. Assumes nothing.
 use mathlib.Core.Path.{_≡_, refl, sym, ap, _∙_, subst}
 use mathlib.Core.Bool.{Bool, true, false, _&&_}
@@ -8,16 +8,16 @@ use native.Mathlib.Decide.{ℕ-discrete, decLt}
 use native.Mathlib.Numerals.{add-one}
 use native.Mathlib.Omega.{arith}
 use borrow.Author.Tests.{lt-ltb, le-ltb, le-leb, lt-leb, eq-eqb, leb-true, ltb-true, eqb-true}
-use lib.Dec.{leb, ltb, eqb}
+use lib.Dec.{T, leb, ltb, eqb}
 use lib.IntN.{ℤ}
 use lib.ListN.{length, getD}
-use Rattle.integers.proofs.Tests.{and-true, and-none}
+use Rattle.integers.proofs.Tests.{T-true, and-true, and-none}
 use Rattle.boxes.specs.Boxes.{Names}
 use Rattle.boxes.specs.Rings.{startOf, RingEnds}
 use Rattle.boxes.proofs.Rings.{start-zero, start-suc}
 use Rattle.nodes.specs.declared.Node.{Node}
 use Rattle.nodes.specs.Nodes.{Fits}
-use Rattle.nodes.specs.Answers.{eachBelow, endsRise, namesEdges, isFit}
+use Rattle.nodes.specs.Answers.{eachBelow, endsRise, namesEdges, isFit, hasChildren}
 
 -- ---- a test of each number below m
 module _ (passes : ℕ → Bool) where
@@ -50,16 +50,19 @@ module _ (passes : ℕ → Bool) where
   each-made zero f = refl
   each-made (suc m) f = λ i. each-made m (λ k l. f k (omega arith)) i && f m (omega arith) i
 
--- ---- both children's places are below a length
-pub no-children : (child len : ℕ) → len ≡ 0 → false ≡ ltb (child + 1) len
-no-children child len e = sym (le-ltb (child + 1) len (omega arith))
+-- ---- a node is cut and both its children's places are below a length
+module _ (m : Node) (len : ℕ) where
+  pub leaf-has-none : m .count ≤ 8 → false ≡ hasChildren m len
+  leaf-has-none few = sym (ap (λ b. b && ltb (m .child + 1) len) (le-ltb 8 (m .count) few))
 
-pub children-below : (child len : ℕ) → 0 < len → ltb child (len - 1) ≡ ltb (child + 1) len
-children-below child len some = go (decLt child (len - 1))
-  where
-    go : Dec (child < len - 1) → ltb child (len - 1) ≡ ltb (child + 1) len
-    go (yes below) = lt-ltb child (len - 1) below ∙ sym (lt-ltb (child + 1) len (omega arith))
-    go (no past) = le-ltb child (len - 1) (omega arith) ∙ sym (le-ltb (child + 1) len (omega arith))
+  pub left-past : 8 < m .count → len ≤ m .child → false ≡ hasChildren m len
+  left-past cut past = sym (λ i. lt-ltb 8 (m .count) cut i && le-ltb (m .child + 1) len (omega arith) i)
+
+  pub cut-has-both : 8 < m .count → ltb (m .child + 1) len ≡ hasChildren m len
+  cut-has-both cut = sym (ap (λ b. b && ltb (m .child + 1) len) (lt-ltb 8 (m .count) cut))
+
+  pub children-below : T (hasChildren m len) → m .child + 1 < len
+  children-below t = ltb-true (m .child + 1) len (and-true (ltb 8 (m .count)) (ltb (m .child + 1) len) (T-true (hasChildren m len) t) .1)
 
 -- ---- ring ends that rise to n
 abbrev rises : List ℕ → ℕ → Bool

@@ -48,6 +48,10 @@ namesEdges n edges f m = leb (f + m) (length edges) && eachBelow (λ k. ltb (get
 abbrev pub isFit : ℕ → ℕ → List ℤ → List ℕ → List ℕ → Node → Bool
 isFit n count corners rings edges m = leb (2 * n) (length corners) && (endsRise n count rings && namesEdges n edges (m .first) (m .count))
 
+-- a node is cut, since more than 8 edges are its part (item 5), and both its children's places are below `len`
+abbrev pub hasChildren : Node → ℕ → Bool
+hasChildren m len = ltb 8 (m .count) && ltb (m .child + 1) len
+
 -- the list has a place p
 abbrev pub isListed : List Node → ℕ → Bool
 isListed nodes p = ltb p (length nodes)
@@ -57,7 +61,7 @@ abbrev pub leafSound : ℕ → ℕ → List ℤ → List ℕ → List ℕ → Li
 leafSound n count corners rings edges nodes p = isListed nodes p && isFit n count corners rings edges (getD nodes p noNode)
 
 abbrev pub cutSound : List Node → ℕ → Bool
-cutSound nodes p = isListed nodes p && isListed nodes (getD nodes p noNode .child + 1)
+cutSound nodes p = isListed nodes p && hasChildren (getD nodes p noNode) (length nodes)
 
 -- ---- the answers
 

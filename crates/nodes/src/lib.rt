@@ -1,14 +1,13 @@
 // The node table as a lent list of records (document 01, items 5 and 9, refusal 15): thin functions that read, put and refit one node.
 // What they compute they leave to functions over plain numbers, lists of numbers and records by value.
 ghost use mathlib.Core.Path.{_≡_};
-ghost use Prim.Native.Nat.{_+_};
-ghost use lib.Dec.{ltb};
 ghost use lib.ListN.{set};
 ghost use Rattle.nodes.specs.Nodes.{rectOfNode, inBox, Fits, fittedLeaf, fittedCut, leafRefitted, cutRefitted};
-ghost use Rattle.nodes.specs.Answers.{endsRise, namesEdges, isFit, isListed, leafSound, cutSound, Reads, Writes};
+ghost use Rattle.nodes.specs.Answers.{endsRise, namesEdges, isFit, hasChildren, isListed, leafSound, cutSound, Reads, Writes};
 use boxes::part_box;
 use geom::Point;
 use geom::Rect;
+use index::build::LEAF;
 
 /// A node of the index: its box, its part of the edge list, and the place of its left child, next to which its right child stands.
 pub struct Node {
@@ -21,7 +20,7 @@ pub struct Node {
     pub child: usize,
 }
 
-/// A node of the list.
+/// What reading a node of the list gives.
 pub enum NodeRead {
     /// The node.
     At(Node),
@@ -33,7 +32,7 @@ pub enum NodeRead {
 pub enum NodeWritten {
     /// It was written.
     Done,
-    /// 15: no such place, or a number that leads outside its table. Nothing was written.
+    /// 15: no such place, no children, or a number that leads outside its table. Nothing was written.
     Unsound,
 }
 
@@ -130,14 +129,19 @@ fn is_fit(
     names_edges(edges, n, node.first, node.count)
 }
 
-// Whether both children's places are below `len`.
+// Whether a node is cut, and both its children's places are below `len`.
 fn has_children(node: Node, len: usize) -> bool
-    ensures { λ r. ⌜ r ≡ ltb (node .child + 1) len ⌝ }
+    ensures { λ r. ⌜ r ≡ hasChildren node len ⌝ }
 {
-    if len == 0 {
+    let count = node.count;
+    let child = node.child;
+    if count <= LEAF {
         return false;
     }
-    node.child < len - 1
+    if len <= child {
+        return false;
+    }
+    child + 1 < len
 }
 
 // A node in the smallest box round the edges of its part.
@@ -192,7 +196,7 @@ pub fn put_node(nodes: &mut [Node], p: usize, node: Node) -> NodeWritten
 ///
 /// Refused with 15 (`Unsound`) where the list has no place p, its part leaves the edge list or names an edge that is not one of n, the
 /// corner table has fewer than n corners, or the ends of the `count` rings do not rise to n: never on sound tables. A refused list stays
-/// as it was.
+/// as it was. The cost is one pass over the ends of all rings, and one over the part.
 pub fn refit_leaf(
     nodes: &mut [Node],
     corners: &[i64],
@@ -217,8 +221,8 @@ pub fn refit_leaf(
 /// Gives the node at place p the union of its two children's boxes: the smallest round its edges where theirs are. Nothing else of it
 /// changes, and no other node is written.
 ///
-/// Refused with 15 (`Unsound`) where the list has no place p, or not both of its children: never for a cut node of sound tables. A refused
-/// list stays as it was.
+/// Refused with 15 (`Unsound`) where the list has no place p, a leaf there, which has no children, or not both of its children: never for a
+/// cut node of sound tables. A refused list stays as it was.
 pub fn refit_cut(nodes: &mut [Node], p: usize) -> NodeWritten
     ensures { λ r. ⌜ Writes (cutSound (now (nodes .entry)) p) (cutRefitted (now (nodes .entry)) p) (now (nodes .entry)) r (now (nodes .exit)) ⌝ }
 {

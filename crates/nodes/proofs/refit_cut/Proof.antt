@@ -46,11 +46,12 @@ use denote.Triple.Table.{entered, cited}
 use denote.Triple.Walked.{says, Stays, stay-slice, stay-none, walkOf, goes-slice, goes-none, Walks, ends-at, walked, walk-meets}
 use denote.Exit.{yes}
 use Rattle.nodes.specs.Nodes.{noNode, fittedCut, cutRefitted}
-use Rattle.nodes.specs.Answers.{isListed, cutSound, Writes}
+use Rattle.nodes.specs.Answers.{isListed, hasChildren, cutSound, Writes}
 use Rattle.nodes.specs.declared.Node.{Node}
 use Rattle.nodes.specs.declared.NodeWritten.{NodeWritten}
 use Rattle.nodes.specs.declared.NodeWritten.the-variants.{Done, Unsound}
 use Rattle.nodes.proofs.Answers.{done as written-done, refused, both, not-first, not-second}
+use Rattle.nodes.proofs.Tests.{children-below}
 use Rattle.nodes.proofs.Node as T
 use Rattle.nodes.proofs.Node.Laws as T′
 use Rattle.nodes.proofs.NodeWritten as R
@@ -93,8 +94,8 @@ module _ {M : Type 1} (𝓤 : URA M) (H : Heap 𝓤) (A : Atoms 𝓤) (mem : Mem
   abbrev Fitted : Contract 𝓤
   Fitted = tripleOf 𝓤 H A g.signature (g.spec 𝓤 H A mem run)
 
-  asked-of : (m : Node) (len : ℕ) (r : Bool) → ent 𝓤 (ensured 𝓤 H A k.ended (k.clauses 𝓤 H A mem run) tt (m, (len, tt)) tt r) (fact 𝓤 (r ≡ ltb (m .child + 1) len))
-  asked-of m len r = exE 𝓤 _ (λ ws. snd∗ 𝓤 (sem 𝓤 H A (lasts k.ended tt (m, (len, tt)) ws)) (fact 𝓤 (r ≡ ltb (m .child + 1) len)))
+  asked-of : (m : Node) (len : ℕ) (r : Bool) → ent 𝓤 (ensured 𝓤 H A k.ended (k.clauses 𝓤 H A mem run) tt (m, (len, tt)) tt r) (fact 𝓤 (r ≡ hasChildren m len))
+  asked-of m len r = exE 𝓤 _ (λ ws. snd∗ 𝓤 (sem 𝓤 H A (lasts k.ended tt (m, (len, tt)) ws)) (fact 𝓤 (r ≡ hasChildren m len)))
 
   fitted-of : (m left right r : Node) → ent 𝓤 (ensured 𝓤 H A g.ended (g.clauses 𝓤 H A mem run) tt (m, (left, (right, tt))) tt r) (fact 𝓤 (r ≡ fittedCut m left right))
   fitted-of m left right r = exE 𝓤 _ (λ ws. snd∗ 𝓤 (sem 𝓤 H A (lasts g.ended tt (m, (left, (right, tt))) ws)) (fact 𝓤 (r ≡ fittedCut m left right)))
@@ -124,7 +125,7 @@ module _ {M : Type 1} (𝓤 : URA M) (H : Heap 𝓤) (A : Atoms 𝓤) (W : Given
 
   -- the second test, both tests, and the list where both hold
   abbrev kids : Bool
-  kids = ltb (c + 1) (length ys)
+  kids = hasChildren elem (length ys)
 
   abbrev fine : Bool
   fine = cutSound ys i
@@ -209,7 +210,7 @@ module _ {M : Type 1} (𝓤 : URA M) (H : Heap 𝓤) (A : Atoms 𝓤) (W : Given
         -- the list has both
         (λ h′.
         let there = subst Holds e h′ in
-        let l′ = ltb→lt (c + 1) (length ys) there in
+        let l′ = children-below elem (length ys) there in
         let lc : c < length ys = omega arith in
         let next = fits-next gn l′ in
         assigns ! (of-opd ! (load ! (from ! (fld ! refl (stop !))) (look-in ! 37 (sub ! 6 refl (whole !))))) (from ! (stop !)) (init ! 35 refl (tt, LL.lawful T.the-type T′.the-laws 𝓤 H A W .typed elem _ ge .0 .1 .1 .1 .1 .1 .1 .1 .0)) $
