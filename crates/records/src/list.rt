@@ -8,7 +8,7 @@ use nodes::refit_cut;
 use nodes::refit_leaf;
 
 /// A list of nodes after one of each call, and what each answered.
-pub struct Ran {
+pub(crate) struct Ran {
     pub nodes: [Node; 7],
     pub put: NodeWritten,
     pub leaf: NodeWritten,

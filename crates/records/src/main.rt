@@ -1,15 +1,17 @@
 // Node records beside the tables of numbers (document 01, "then as a lent list of node records").
 //
-// A plan of 20 corners is prepared and its index put into an array of node records, node by node. Then each corner in turn is moved, and
-// the records are refitted along the paths to its two edges. After every move each record is read and held to the row of boxes and parts
-// that the engine's own refit left. At the end each call is refused once for every reason that it has, and the records have to be as they
-// were.
+// A plan is prepared and its index put into an array of node records, node by node. Each call is refused once for every reason that it has,
+// and the records have to be as they were. Then each corner in turn is moved, and the records are refitted along the paths to its two edges.
+// After every move each record is read and held to the row of boxes and parts that the engine's own refit left.
+//
+// One plan has 20 corners and so seven nodes, the other 8 and so a leaf at the root; both have three rings, the second of them empty.
 mod list;
 
 use corrections::move_corner;
 use geom::Point;
 use libc::STDOUT_FILENO;
 use list::run;
+use model::Answer;
 use nodes::Node;
 use nodes::NodeRead;
 use nodes::NodeWritten;
@@ -22,7 +24,9 @@ use rules::State;
 use walk::place::Place;
 use walk::place::place_of_edge;
 
-// A place that no list has.
+// The most corners that a plan has, and a place that no list has.
+const CORNERS: usize = 20;
+
 const NOWHERE: usize = 7;
 
 fn write(text: &[u8]) {
@@ -93,6 +97,7 @@ fn filled(
     boxes: &[[i64; 4]],
     parts: &[[usize; 3]],
     edges: &[usize],
+    n: usize,
 ) -> [Node; 7] {
     let mut nodes: [Node; 7] = [no_node(); 7];
     let mut p: usize = 0;
@@ -103,8 +108,8 @@ fn filled(
             corners,
             rings,
             edges,
-            20,
-            1,
+            n,
+            rings.len(),
             p,
             node,
             NOWHERE,
@@ -125,6 +130,7 @@ fn alike(
     boxes: &[[i64; 4]],
     parts: &[[usize; 3]],
     edges: &[usize],
+    n: usize,
 ) -> bool {
     let mut p: usize = 0;
     while p < 7 {
@@ -133,8 +139,8 @@ fn alike(
             corners,
             rings,
             edges,
-            20,
-            1,
+            n,
+            rings.len(),
             NOWHERE,
             no_node(),
             NOWHERE,
@@ -163,6 +169,7 @@ fn along(
     corners: &[i64],
     rings: &[usize],
     edges: &[usize],
+    n: usize,
     path: &[usize],
     depth: usize,
 ) -> [Node; 7] {
@@ -181,8 +188,8 @@ fn along(
             corners,
             rings,
             edges,
-            20,
-            1,
+            n,
+            rings.len(),
             NOWHERE,
             no_node(),
             leaf,
@@ -202,22 +209,76 @@ fn refitted(
     boxes: &[[i64; 4]],
     parts: &[[usize; 3]],
     edges: &[usize],
+    n: usize,
     e: usize,
 ) -> [Node; 7] {
     let mut path: [usize; 18] = [0; 18];
     let mut stops: [usize; 8] = [0; 8];
-    match place_of_edge(corners, rings, boxes, parts, edges, 20, 1, e) {
+    match place_of_edge(corners, rings, boxes, parts, edges, n, rings.len(), e) {
         Place::Unsound => nodes,
         Place::At(k) => {
-            match find_way(&mut path, &mut stops, rings, parts, edges, 20, 1, k) {
+            match find_way(
+                &mut path,
+                &mut stops,
+                rings,
+                parts,
+                edges,
+                n,
+                rings.len(),
+                k,
+            ) {
                 Way::Unsound => nodes,
-                Way::At(depth) => along(nodes, corners, rings, edges, &path, depth),
+                Way::At(depth) => along(nodes, corners, rings, edges, n, &path, depth),
             }
         }
     }
 }
 
-// Moves each corner in turn, once far out and once back in. Whether the records are what the tables are after every move.
+// The edge that ends at a corner.
+fn edge_before(rings: &[usize], corner: usize) -> usize {
+    let mut start: usize = 0;
+    let mut r: usize = 0;
+    while r < rings.len() {
+        let end = rings[r];
+        if corner == start {
+            if start < end {
+                return end - 1;
+            }
+        }
+        start = end;
+        r += 1;
+    }
+    if corner == 0 {
+        return 0;
+    }
+    corner - 1
+}
+
+fn is_accepted(answer: Answer) -> bool {
+    match answer {
+        Answer::Accepted => true,
+        Answer::At(_) => false,
+        Answer::Refused(_) => false,
+    }
+}
+
+// The records after a move of a corner: refitted along the path to the edge that starts there, and to the one that ends there.
+fn both_refitted(
+    nodes: [Node; 7],
+    corners: &[i64],
+    rings: &[usize],
+    boxes: &[[i64; 4]],
+    parts: &[[usize; 3]],
+    edges: &[usize],
+    n: usize,
+    corner: usize,
+) -> [Node; 7] {
+    let before = edge_before(rings, corner);
+    let started = refitted(nodes, corners, rings, boxes, parts, edges, n, corner);
+    refitted(started, corners, rings, boxes, parts, edges, n, before)
+}
+
+// Moves each corner in turn, once far out and once back in, so many moves together. Whether every move is accepted and the records are then what the tables are.
 fn moved(
     nodes: [Node; 7],
     state: State,
@@ -227,15 +288,17 @@ fn moved(
     parts: &[[usize; 3]],
     edges: &[usize],
     undo: &mut [[i64; 3]],
+    moves: usize,
 ) -> bool {
+    let n = moves / 2;
     let mut now = state;
     let mut records = nodes;
     let mut held = true;
     let mut i: usize = 0;
-    while i < 40 {
-        let corner = i / 2;
-        let far = (i % 2 * 500) as i64;
+    while i < moves {
+        let far = ((i + 1) % 2 * 500) as i64;
         let place = Point { x: far, y: 7 };
+        let corner = i / 2;
         let corrected = move_corner(
             now,
             corners,
@@ -248,18 +311,11 @@ fn moved(
             place,
         );
         now = corrected.state;
-        let started = refitted(records, corners, rings, boxes, parts, edges, corner);
-        let ended = refitted(
-            started,
-            corners,
-            rings,
-            boxes,
-            parts,
-            edges,
-            (corner + 19) % 20,
-        );
-        records = ended;
-        held = held & alike(records, corners, rings, boxes, parts, edges);
+        let answer = corrected.answer;
+        let accepted = is_accepted(answer);
+        let fitted = both_refitted(records, corners, rings, boxes, parts, edges, n, corner);
+        records = fitted;
+        held = held & accepted & alike(records, corners, rings, boxes, parts, edges, n);
         i += 1;
     }
     held
@@ -330,17 +386,17 @@ fn refused(
         & same_list(nodes, after)
 }
 
-// The list with a node at place 6 whose part and whose children lie past their tables.
-fn damaged(nodes: [Node; 7]) -> [Node; 7] {
+// The list with a node at place 6 of this part and this child, in a box of its own.
+fn damaged(nodes: [Node; 7], first: usize, count: usize, child: usize) -> [Node; 7] {
     let mut list = nodes;
     list[6] = Node {
         min_x: 1,
         min_y: 2,
         max_x: 3,
         max_y: 4,
-        first: 20,
-        count: 1,
-        child: 6,
+        first: first,
+        count: count,
+        child: child,
     };
     list
 }
@@ -354,35 +410,55 @@ fn write_whether(name: &[u8], held: bool) {
     }
 }
 
-fn refusals(nodes: [Node; 7], corners: &[i64], rings: &[usize], edges: &[usize]) {
-    let nowhere: [usize; 20] = [20; 20];
-    write_whether(
-        b"a place past the list refused",
-        refused(nodes, corners, rings, edges, 20, 1, NOWHERE, NOWHERE),
-    );
+// What tables of other lengths or numbers get, for the leaf at place 6 of a plan of 20 corners in three rings.
+fn refused_tables(nodes: [Node; 7], corners: &[i64], rings: &[usize], edges: &[usize]) {
+    let falling: [usize; 3] = [9, 8, 20];
+    let nowhere: [usize; CORNERS] = [20; CORNERS];
     write_whether(
         b"too few corners refused",
-        refused(nodes, corners, rings, edges, 21, 1, 6, NOWHERE),
+        refused(nodes, corners, rings, edges, 21, 3, 6, NOWHERE),
     );
     write_whether(
         b"too few rings refused",
-        refused(nodes, corners, rings, edges, 20, 2, 6, NOWHERE),
+        refused(nodes, corners, rings, edges, 20, 4, 6, NOWHERE),
     );
     write_whether(
         b"rings that end elsewhere refused",
-        refused(nodes, corners, rings, edges, 19, 1, 6, NOWHERE),
+        refused(nodes, corners, rings, edges, 19, 3, 6, NOWHERE),
+    );
+    write_whether(
+        b"ring ends that fall refused",
+        refused(nodes, corners, &falling, edges, 20, 3, 6, NOWHERE),
     );
     write_whether(
         b"an edge that is none refused",
-        refused(nodes, corners, rings, &nowhere, 20, 1, 6, NOWHERE),
-    );
-    write_whether(
-        b"a part past the edge list and a child past the list refused",
-        refused(damaged(nodes), corners, rings, edges, 20, 1, 6, 6),
+        refused(nodes, corners, rings, &nowhere, 20, 3, 6, NOWHERE),
     );
 }
 
-// All that is asked of the records of a plan just prepared.
+// What places and nodes get that lead outside their table.
+fn refused_nodes(nodes: [Node; 7], corners: &[i64], rings: &[usize], edges: &[usize]) {
+    let past = damaged(nodes, 20, 9, 6);
+    let far = damaged(nodes, 21, 9, 18446744073709551615);
+    write_whether(
+        b"a place past the list refused",
+        refused(nodes, corners, rings, edges, 20, 3, NOWHERE, NOWHERE),
+    );
+    write_whether(
+        b"a leaf's children refused",
+        refused(nodes, corners, rings, edges, 20, 3, NOWHERE, 6),
+    );
+    write_whether(
+        b"a part that ends past the edge list and a child past the list refused",
+        refused(past, corners, rings, edges, 20, 3, 6, 6),
+    );
+    write_whether(
+        b"a part that begins past the edge list and the largest child refused",
+        refused(far, corners, rings, edges, 20, 3, 6, 6),
+    );
+}
+
+// All that is asked of the records of a plan just prepared, with two moves a corner.
 fn examine(
     state: State,
     corners: &mut [i64],
@@ -390,30 +466,46 @@ fn examine(
     boxes: &mut [[i64; 4]],
     parts: &[[usize; 3]],
     edges: &[usize],
+    moves: usize,
 ) {
+    let n = moves / 2;
     let mut undo: [[i64; 3]; 40] = [[0; 3]; 40];
-    let nodes = filled(corners, rings, boxes, parts, edges);
-    write_whether(b"filled", alike(nodes, corners, rings, boxes, parts, edges));
-    refusals(nodes, corners, rings, edges);
-    let held = moved(nodes, state, corners, rings, boxes, parts, edges, &mut undo);
-    write_whether(b"alike after each of 40 moves", held);
+    let nodes = filled(corners, rings, boxes, parts, edges, n);
+    write_whether(
+        b"filled",
+        alike(nodes, corners, rings, boxes, parts, edges, n),
+    );
+    if n == CORNERS {
+        refused_tables(nodes, corners, rings, edges);
+        refused_nodes(nodes, corners, rings, edges);
+    }
+    let held = moved(
+        nodes,
+        state,
+        corners,
+        rings,
+        boxes,
+        parts,
+        edges,
+        &mut undo,
+        moves,
+    );
+    write_whether(b"each corner moved twice, and alike after each move", held);
 }
 
-fn main() {
-    let mut coordinates: [i64; 40] = [0; 40];
-    put_coordinates(&mut coordinates);
-    let lengths: [usize; 1] = [20];
+// Prepares a tree of three rings, of at most 20 corners together, and asks.
+fn examine_plan(coordinates: &[i64], lengths: &[usize]) {
     let counts: [usize; 0] = [];
     let mut corners: [i64; 40] = [0; 40];
-    let mut rings: [usize; 1] = [0];
+    let mut rings: [usize; 3] = [0; 3];
     let mut polygons: [usize; 0] = [];
     let mut boxes: [[i64; 4]; 7] = [[0; 4]; 7];
     let mut parts: [[usize; 3]; 7] = [[0; 3]; 7];
-    let mut edges: [usize; 20] = [0; 20];
+    let mut edges: [usize; CORNERS] = [0; CORNERS];
     match prepare(
         Kind::Tree,
-        &coordinates,
-        &lengths,
+        coordinates,
+        lengths,
         &counts,
         &mut corners,
         &mut rings,
@@ -430,6 +522,18 @@ fn main() {
             &mut boxes,
             &parts,
             &edges,
+            coordinates.len(),
         ),
     }
+}
+
+fn main() {
+    let mut many: [i64; 40] = [0; 40];
+    let mut few: [i64; 16] = [0; 16];
+    put_coordinates(&mut many);
+    put_coordinates(&mut few);
+    write(b"20 corners in three rings, one of them empty\n");
+    examine_plan(&many, &[9, 0, 11]);
+    write(b"8 corners in three rings, one of them empty: a leaf at the root\n");
+    examine_plan(&few, &[5, 0, 3]);
 }

@@ -5,10 +5,10 @@ use Rattle.records.proofs.alike.Statement.{statement}
 use Rattle.records.proofs.alike.Tie as tie
 
 abbrev Inv-loop : tie.InvT-loop
-Inv-loop nodes corners rings boxes parts edges p₀ p = Unit {0}
+Inv-loop nodes corners rings boxes parts edges n p₀ p = Unit {0}
 
 abbrev μ-loop : tie.MeasureT-loop
-μ-loop nodes corners rings boxes parts edges p₀ p = 7 - p
+μ-loop nodes corners rings boxes parts edges n p₀ p = 7 - p
 
 loop-holds : tie.Need-loop-holds Inv-loop μ-loop
 loop-holds c = tt

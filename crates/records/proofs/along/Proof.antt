@@ -5,10 +5,10 @@ use Rattle.records.proofs.along.Statement.{statement}
 use Rattle.records.proofs.along.Tie as tie
 
 abbrev Inv-loop : tie.InvT-loop
-Inv-loop corners rings edges path depth fitted₀ k₀ fitted k = k ≤ depth
+Inv-loop corners rings edges n path depth fitted₀ k₀ fitted k = k ≤ depth
 
 abbrev μ-loop : tie.MeasureT-loop
-μ-loop corners rings edges path depth fitted₀ k₀ fitted k = k
+μ-loop corners rings edges n path depth fitted₀ k₀ fitted k = k
 
 returns : tie.Need-returns Inv-loop μ-loop
 returns c = tt

@@ -5,10 +5,10 @@ use Rattle.records.proofs.filled.Statement.{statement}
 use Rattle.records.proofs.filled.Tie as tie
 
 abbrev Inv-loop : tie.InvT-loop
-Inv-loop corners rings boxes parts edges nodes₀ p₀ nodes p = Unit {0}
+Inv-loop corners rings boxes parts edges n nodes₀ p₀ nodes p = Unit {0}
 
 abbrev μ-loop : tie.MeasureT-loop
-μ-loop corners rings boxes parts edges nodes₀ p₀ nodes p = 7 - p
+μ-loop corners rings boxes parts edges n nodes₀ p₀ nodes p = 7 - p
 
 no-node-requires : tie.Need-no-node-requires Inv-loop μ-loop
 no-node-requires c κs = search needs
