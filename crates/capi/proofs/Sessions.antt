@@ -6,7 +6,8 @@ use mathlib.Core.List.{List, [], _∷_, map}
 use Prim.Native.Nat.{ℕ}
 use native.Mathlib.Omega.{arith}
 use lib.IntN.{ℤ, pos}
-use lib.ListN.{length}
+use lib.ListN.{length, take}
+use lib.Seq.{take-all}
 use Rattle.geom.specs.declared.Point.{Point}
 use Rattle.geom.specs.Range.{inRange, inDoubledRange}
 use Rattle.rules.specs.declared.Kind.{Kind}
@@ -25,6 +26,7 @@ use Rattle.prepare.specs.declared.Preparing as Preparing
 use Rattle.prepare.specs.declared.Preparing.the-variants.{Ready}
 use Rattle.prepare.specs.Tables as Preparing-tables
 use Rattle.prepare.specs.Tables.{Tables}
+use Rattle.prepare.proofs.Readiness.{unmarked-near}
 use Rattle.query.specs.Calls.{LookedUp}
 use Rattle.outlines.proofs.Steps.{at-refused}
 use Rattle.prepared.specs.Calls.{Looked}
@@ -32,29 +34,33 @@ use Rattle.corrections.specs.declared.Corrected.{Corrected}
 use Rattle.model.specs.declared.Answer.{Answer}
 use Rattle.model.specs.declared.Call.{Call}
 use Rattle.model.specs.declared.Call.the-variants.{Move, Undo, Locate, LocateDoubled}
-use Rattle.model.specs.Demand.{Turn, callsOf, answersOf, Run, endOf, lent}
-use Rattle.model.specs.Model.{modelAnswers, opened}
+use Rattle.model.specs.Demand.{Turn, callsOf, answersOf, Run, endOf, markedAnswer}
 use Rattle.model.specs.Numbers.{answerOf, answerNumber}
 use Rattle.model.specs.declared.Early.{Early}
 use Rattle.model.specs.declared.Early.the-variants.{Open, Settled}
 use Rattle.model.specs.Prepared.{Prepared, preparedOf, planHeld, Sound}
 use Rattle.model.specs.Steps.{early, Does, isLookUp, Step}
 use Rattle.model.proofs.Ways as Ways
-use Rattle.model.proofs.Ways.{sound-reaches, locate-step, locate-doubled-step}
-use Rattle.model.proofs.Theorem.{demand}
+use Rattle.model.proofs.Ways.{true-false, settled-open, sound-reaches, locate-step, locate-doubled-step}
+use Rattle.model.proofs.Marked.{early-marked, marked}
 use Rattle.replay.specs.Replays.{given}
-use Rattle.replay.proofs.Ending.{kept-answers}
+use Rattle.replay.proofs.Ending.{followed}
 use Rattle.replay.proofs.LookUps.{locate-is-step, locate-doubled-is-step}
-use Rattle.replay.proofs.Starting.{fresh, first-held}
+use Rattle.replay.proofs.Starting.{fresh, first-held, first-size}
+use Rattle.states.specs.declared.StateNumbers.{StateNumbers}
 use Rattle.states.specs.declared.NamedKind.{NamedKind}
 use Rattle.states.specs.declared.NamedKind as NamedKind
 use Rattle.states.specs.declared.NamedState.{NamedState}
-use Rattle.states.specs.States.{kindNamed, stateNamed, stateNumbers, Replied}
+use Rattle.states.specs.States.{kindNamed, markNumber, stateNamed, stateNumbers, Replied}
 use Rattle.capi.specs.declared.exports.PrepareAnswer.{PrepareAnswer}
 use Rattle.capi.specs.declared.moves.CorrectionAnswer.{CorrectionAnswer}
 use Rattle.capi.specs.Exports.{PrepareSays, prepareNumbers, correctionNumbers, CorrectionSays, Written}
-use Rattle.capi.specs.Sessions.{Kept, keptOf, CorrectionCalled, LookUpCalled, ExportCalled, Request, requested, Session, sessionEnd, exportNumber, exportNumbers, Served, ServerDemand}
+use Rattle.capi.specs.Sessions.{Kept, keptOf, CorrectionCalled, LookUpCalled, ExportCalled, Request, requested, Session, sessionEnd, exportNumber, exportNumbers, Served, ServerDemand, ServerMarked}
 use Rattle.capi.proofs.Namings.{state-returns}
+
+-- tables as a session meets them: sound unless the plan is marked, whose tables nobody reads
+abbrev Fit : Prepared → Type 0
+Fit d = d .state .«out_of_range» ≡ false → Sound d
 
 -- ---- one call of an export is a step
 
@@ -106,23 +112,23 @@ reply-number : (reply : Reply) → replyNumber reply ≡ answerNumber (answerOf 
 reply-number (Reply.the-variants.At location) = refl
 reply-number (Reply.the-variants.Refused refusal) = refl
 
--- ring by ring on sound tables, none of which is short
-ring-looked : (call : Call) (d : Prepared) → Sound d → (ranged : Bool) (location : Location) (reply : Reply) → LookedUp (d .state) (d .corners) (d .rings) (d .polygons) ranged location reply → Ways.Looked call d ranged location reply
-ring-looked call d sound ranged location reply l = record {
+-- ring by ring on tables that are sound unless the plan is marked, so that none is short
+ring-looked : (call : Call) (d : Prepared) → Fit d → (ranged : Bool) (location : Location) (reply : Reply) → LookedUp (d .state) (d .corners) (d .rings) (d .polygons) ranged location reply → Ways.Looked call d ranged location reply
+ring-looked call d fit ranged location reply l = record {
   before = l .early;
   only = λ refusal e. absurd (go (d .state .«out_of_range») refl refusal e);
-  short = λ unmarked near n. absurd (n (sound-reaches call d sound));
+  short = λ unmarked near n. absurd (n (sound-reaches call d (fit unmarked)));
   exact = λ s unmarked. l .exact (s .plan) unmarked;
 }
   where
     go : (m : Bool) → d .state .«out_of_range» ≡ m → (refusal : Refusal) → reply ≡ Reply.the-variants.Refused refusal → ⊥
     go true f refusal e = at-refused Outside refusal (sym (l .early (inl f)) ∙ e)
-    go false f refusal e = at-refused location refusal (sym (l .exact (sound .plan) f) ∙ e)
+    go false f refusal e = at-refused location refusal (sym (l .exact (fit f .plan) f) ∙ e)
 
 module _ (call : Call) (ranged : Point → Bool) (location : Plan → Point → Location) (p : Point) (d : Prepared) (number : ℤ) (k′ : Kept) (C : LookUpCalled ranged location p (keptOf d) number k′)
     (numbered : (a : Answer) → exportNumber call a ≡ answerNumber a)
     (step : (reply : Reply) → Looked (d .state) (d .corners) (d .rings) (d .polygons) (d .boxes) (d .parts) (d .edges) (ranged p) (location (planHeld d) p) reply → Step call d (answerOf reply) d)
-    (sound : Sound d) (ring-step : (reply : Reply) → Ways.Looked call d (ranged p) (location (planHeld d) p) reply → Step call d (answerOf reply) d) where
+    (fit : Fit d) (ring-step : (reply : Reply) → Ways.Looked call d (ranged p) (location (planHeld d) p) reply → Step call d (answerOf reply) d) where
   abbrev ByBoxes : State → Reply → Type 0
   ByBoxes s reply = Looked s (d .corners) (d .rings) (d .polygons) (d .boxes) (d .parts) (d .edges) (ranged p) (location (planOf s (d .corners) (d .rings) (d .polygons)) p) reply
 
@@ -143,35 +149,39 @@ module _ (call : Call) (ranged : Point → Bool) (location : Plan → Point → 
       by-rings : Replied (stateNamed (stateNumbers (d .state))) ByRings number → Stepped call d number k′
       by-rings promised =
           let named : (reply : Reply) × ByRings (d .state) reply × (number ≡ replyNumber reply) = subst (λ (n : NamedState). Replied n ByRings number) (state-returns (d .state)) promised in
-          replied (named .0) (ring-step (named .0) (ring-looked call d sound (ranged p) (location (planHeld d) p) (named .0) (named .1))) (named .2)
+          replied (named .0) (ring-step (named .0) (ring-looked call d fit (ranged p) (location (planHeld d) p) (named .0) (named .1))) (named .2)
 
-stepped : (call : Call) (d : Prepared) (number : ℤ) (k′ : Kept) → Sound d → ExportCalled call (keptOf d) number k′ → Stepped call d number k′
+stepped : (call : Call) (d : Prepared) (number : ℤ) (k′ : Kept) → Fit d → ExportCalled call (keptOf d) number k′ → Stepped call d number k′
 stepped (Move i place) d number k′ S C = corrected-step (Move i place) d number k′ C (λ a. refl)
 stepped Undo d number k′ S C = corrected-step Undo d number k′ C (λ a. refl)
 stepped (Locate p) d number k′ S C = looked-step (Locate p) inRange planReply p d number k′ C (λ a. refl) (locate-is-step d p) S (locate-step d p)
 stepped (LocateDoubled p) d number k′ S C = looked-step (LocateDoubled p) inDoubledRange planHalfReply p d number k′ C (λ a. refl) (locate-doubled-is-step d p) S (locate-doubled-step d p)
 
--- a step leaves sound tables sound
-step-sound : (call : Call) (d : Prepared) (a : Answer) (d′ : Prepared) → Step call d a d′ → Sound d → Sound d′
-step-sound call d a d′ s S = go (early call d) refl
+-- a step leaves tables fit: a look-up and what is settled early change nothing, and a marked plan's calls are all settled early
+step-fit : (call : Call) (d : Prepared) (a : Answer) (d′ : Prepared) → Step call d a d′ → Fit d → Fit d′
+step-fit call d a d′ s fit = go (early call d) refl
   where
-    does : (c : Call) → Does c d a d′ → (isLookUp c ≡ true → d′ ≡ d) → Sound d′
-    does (Move i place) w l = w .corrected .sound
-    does Undo w l = w .corrected .sound
-    does (Locate p) w l = subst Sound (sym (l refl)) S
-    does (LocateDoubled p) w l = subst Sound (sym (l refl)) S
+    does : (c : Call) → Does c d a d′ → (isLookUp c ≡ true → d′ ≡ d) → Fit d′
+    does (Move i place) w l = λ unmarked. w .corrected .sound
+    does Undo w l = λ unmarked. w .corrected .sound
+    does (Locate p) w l = subst Fit (sym (l refl)) fit
+    does (LocateDoubled p) w l = subst Fit (sym (l refl)) fit
 
-    go : (e : Early) → early call d ≡ e → Sound d′
-    go (Settled e) is = subst Sound (sym (s .settled e is .1)) S
-    go Open is = does call (s .does S is) (s .looked)
+    open-step : (m : Bool) → d .state .«out_of_range» ≡ m → early call d ≡ Open → Fit d′
+    open-step true marked is = absurd (settled-open (markedAnswer call) (sym (early-marked call d marked) ∙ is))
+    open-step false unmarked is = does call (s .does (fit unmarked) is) (s .looked)
 
--- ---- from sound tables a session is a run
-pub session-run : (requests : List Request) (d : Prepared) → Sound d → Session (keptOf d) requests → Served d requests
+    go : (e : Early) → early call d ≡ e → Fit d′
+    go (Settled e) is = subst Fit (sym (s .settled e is .1)) fit
+    go Open is = open-step (d .state .«out_of_range») refl is
+
+-- ---- from fit tables a session is a run
+pub session-run : (requests : List Request) (d : Prepared) → Fit d → Session (keptOf d) requests → Served d requests
 unfolding Run endOf Session sessionEnd exportNumbers
-session-run [] d S s = record { turns = []; run = tt; calls = refl; numbers = refl; end = refl; lefts = refl }
-session-run (r ∷ requests) d S s =
-    let one = stepped (r .call) d (r .number) (r .left) S (s .0) in
-    let rest = session-run requests (one .left) (step-sound (r .call) d (one .answer) (one .left) (one .step) S) (subst (λ (k : Kept). Session k requests) (one .kept) (s .1)) in
+session-run [] d fit s = record { turns = []; run = tt; calls = refl; numbers = refl; end = refl; lefts = refl }
+session-run (r ∷ requests) d fit s =
+    let one = stepped (r .call) d (r .number) (r .left) fit (s .0) in
+    let rest = session-run requests (one .left) (step-fit (r .call) d (one .answer) (one .left) (one .step) fit) (subst (λ (k : Kept). Session k requests) (one .kept) (s .1)) in
     let turn : Turn = record { call = r .call; answer = one .answer; left = one .left } in
     record {
       turns = turn ∷ rest .turns;
@@ -183,6 +193,15 @@ session-run (r ∷ requests) d S s =
     }
 
 -- ---- what `findspot_prepare` gives a session to start from
+
+-- the number of a mark
+mark-nought : (m : Bool) → markNumber m ≡ 0 → m ≡ false
+mark-nought true e = absurd (omega arith)
+mark-nought false e = refl
+
+mark-other : (m : Bool) → (markNumber m ≡ 0 → ⊥) → m ≡ true
+mark-other true off = refl
+mark-other false off = absurd (off refl)
 
 positive : (refusal : Refusal) → refusalNumber refusal ≡ 0 → ⊥
 positive TextTooLong e = omega arith
@@ -221,23 +240,45 @@ module _ (coordinates : List ℤ) (lengths counts : List ℕ) (before first : Ta
       go NamedKind.the-variants.Unknown e Q = absurd (positive Unsound (sym (ap (λ (q : PrepareAnswer). q .refusal) (Q .1)) ∙ accepted))
       go (NamedKind.the-variants.Known kind) e Q = ready kind (Q .0) e (Q .1) (Q .2)
 
-  -- ---- demand 3: from a plan that `findspot_prepare` accepted, in range, with any undo table
-  pub server-demand : (number : ℕ) (answer : PrepareAnswer) (S : Started number answer) → planInRange (planOfKind (S .kind)) ≡ true → (undo : List (List ℤ)) (requests : List Request)
-      → Session (record { numbers = answer .state; corners = first .corners; rings = first .rings; polygons = first .polygons; boxes = first .boxes; parts = first .parts; edges = first .edges; undo = undo }) requests
-      → ServerDemand (planOfKind (S .kind)) (given (S .state) first undo) requests
-  server-demand number answer S near undo requests s =
-      let d = given (S .state) first undo in
-      let plan = planOfKind (S .kind) in
-      let kept : _≡_ {A = Kept} (record { numbers = answer .state; corners = first .corners; rings = first .rings; polygons = first .polygons; boxes = first .boxes; parts = first .parts; edges = first .edges; undo = undo }) (keptOf d) = λ t. record { numbers = S .numbers t; corners = first .corners; rings = first .rings; polygons = first .polygons; boxes = first .boxes; parts = first .parts; edges = first .edges; undo = undo } in
-      let begun = fresh plan before first (S .state) (S .nodes) (S .prepared) undo near in
-      let served = session-run requests d (begun .sound) (subst (λ (k : Kept). Session k requests) kept s) in
-      let w = demand d (served .turns) begun (served .run) in
-      record {
-        served = served;
-        demand = w;
-        numbers =
-            served .numbers
-            ∙ (λ t. exportNumbers (served .calls t) (w .answers t))
-            ∙ (λ t. exportNumbers (requested requests) (modelAnswers (first-held plan before first (S .state) (S .nodes) (S .prepared) undo t) (lent d) (served .calls t)))
-            ∙ ap (exportNumbers (requested requests)) (kept-answers plan (lent d) (opened plan) (requested requests));
-      }
+  -- ---- a session from a plan that `findspot_prepare` accepted, with any undo table
+  module _ (number : ℕ) (answer : PrepareAnswer) (S : Started number answer) (undo : List (List ℤ)) (requests : List Request) where
+    abbrev plan : Plan
+    plan = planOfKind (S .kind)
+
+    -- the tables and the state, and what the server holds of them
+    abbrev d : Prepared
+    d = given (S .state) first undo
+
+    abbrev held : Kept
+    held = record { numbers = answer .state; corners = first .corners; rings = first .rings; polygons = first .polygons; boxes = first .boxes; parts = first .parts; edges = first .edges; undo = undo }
+
+    held-is : held ≡ keptOf d
+    held-is = λ t. record { numbers = S .numbers t; corners = first .corners; rings = first .rings; polygons = first .polygons; boxes = first .boxes; parts = first .parts; edges = first .edges; undo = undo }
+
+    mark-is : answer .state .«out_of_range» ≡ markNumber (S .state .«out_of_range»)
+    mark-is = ap (λ (n : StateNumbers). n .«out_of_range») (S .numbers)
+
+    -- demand 3, where the mark that was answered is 0
+    pub server-demand : answer .state .«out_of_range» ≡ 0 → Session held requests → ServerDemand plan d requests
+    server-demand unmarked s =
+        let near = unmarked-near plan before first (S .state) (S .nodes) (S .prepared) (mark-nought (S .state .«out_of_range») (sym mark-is ∙ unmarked)) in
+        let begun = fresh plan before first (S .state) (S .nodes) (S .prepared) undo near in
+        let served = session-run requests d (λ e. begun .sound) (subst (λ (k : Kept). Session k requests) held-is s) in
+        let follows = followed plan (requested requests) d (served .turns) (endOf d (served .turns)) (served .run) (served .calls) refl begun (first-held plan before first (S .state) (S .nodes) (S .prepared) undo) (first-size plan before first (S .state) (S .nodes) (S .prepared) undo) in
+        record {
+          served = served;
+          followed = follows;
+          numbers = served .numbers ∙ (λ t. exportNumbers (served .calls t) (follows .answers t));
+        }
+
+    -- where it is not
+    pub server-marked : (answer .state .«out_of_range» ≡ 0 → ⊥) → Session held requests → ServerMarked held requests
+    server-marked off s =
+        let marked-state = mark-other (S .state .«out_of_range») (λ e. off (mark-is ∙ e)) in
+        let served = session-run requests d (λ e. absurd (true-false (sym marked-state ∙ e))) (subst (λ (k : Kept). Session k requests) held-is s) in
+        let w = marked (served .turns) d marked-state (served .run) in
+        let whole = take-all (length (served .turns)) (served .turns) (omega arith) in
+        record {
+          numbers = served .numbers ∙ (λ t. exportNumbers (served .calls t) ((w .answers ∙ ap (map markedAnswer) (served .calls)) t));
+          left = ap (λ (k : Kept). sessionEnd k requests) held-is ∙ served .end ∙ ap (λ (v : Prepared). keptOf v) (ap (endOf d) (sym whole) ∙ w .left (length (served .turns))) ∙ sym held-is;
+        }

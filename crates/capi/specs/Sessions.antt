@@ -13,10 +13,11 @@ use Rattle.rules.specs.Plans.{Plan, planReply, planHalfReply}
 use Rattle.model.specs.declared.Answer.{Answer}
 use Rattle.model.specs.declared.Call.{Call}
 use Rattle.model.specs.declared.Call.the-variants.{Move, Undo, Locate, LocateDoubled}
-use Rattle.model.specs.Demand.{Turn, callsOf, answersOf, Run, endOf, Demand, lent}
+use Rattle.model.specs.Demand.{Turn, callsOf, answersOf, Run, endOf, lent, markedAnswer}
 use Rattle.model.specs.Model.{modelAnswers}
 use Rattle.model.specs.Numbers.{answerNumber}
 use Rattle.model.specs.Prepared.{Prepared}
+use Rattle.replay.specs.Replays.{Followed}
 use Rattle.states.specs.declared.StateNumbers.{StateNumbers}
 use Rattle.states.specs.States.{stateNumbers}
 use Rattle.capi.specs.declared.moves.CorrectionAnswer.{CorrectionAnswer}
@@ -113,8 +114,13 @@ pub record Served (d : Prepared) (requests : List Request) : Type 0 where
   -- after each call the server holds what the turn left
   pub lefts : map (λ (r : Request). r .left) requests ≡ map (λ (t : Turn). keptOf (t .left)) turns
 
--- and so demand 3 holds of it: its numbers are those of the model's answers for the plan handed in
+-- and so, in range, demand 3 holds of it: its numbers are those of the model's answers for the plan handed in
 pub record ServerDemand (plan : Plan) (d : Prepared) (requests : List Request) : Type 0 where
   pub served : Served d requests
-  pub demand : Demand d (served .turns)
+  pub followed : Followed plan (requested requests) d (served .turns) (endOf d (served .turns))
   pub numbers : map (λ r. r .number) requests ≡ exportNumbers (requested requests) (modelAnswers plan (lent d) (requested requests))
+
+-- on a marked plan: 12 and outside, and nothing changes
+pub record ServerMarked (k : Kept) (requests : List Request) : Type 0 where
+  pub numbers : map (λ r. r .number) requests ≡ exportNumbers (requested requests) (map markedAnswer (requested requests))
+  pub left : sessionEnd k requests ≡ k

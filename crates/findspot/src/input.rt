@@ -3,7 +3,7 @@ ghost use Rattle.findspot.specs.Inputs.{Came, Holds};
 use libc::STDIN_FILENO;
 
 /// What one read comes to.
-pub enum Got {
+pub(crate) enum Got {
     /// So many bytes, one or more.
     Bytes(usize),
     /// The input is at its end.
@@ -13,7 +13,7 @@ pub enum Got {
 }
 
 /// What reading to the end comes to.
-pub enum Input {
+pub(crate) enum Input {
     /// The input's bytes, or as many of them as the buffer holds, stand at its start: so many.
     Read(usize),
     /// A read failed.

@@ -11,7 +11,7 @@ pub enum Form {
 }
 
 /// Where a part ends, or that its entry does not fit.
-pub enum End {
+pub(crate) enum End {
     At(usize),
     Misfit,
 }

@@ -58,12 +58,12 @@ refusal-writes-nothing plan before after calls refusal R = R .tables
 module _ (plan : Plan) (calls : List (List ℤ)) (d : Prepared) (was : List ℤ) (d′ : Prepared) (is : List ℤ) (R : Replayed plan calls d was d′ is) where
   -- moves merely acknowledged: corners that the model moves do not stay as they were
   pub moves-acknowledged : (modelAfter plan (lent d) (map callOf calls) .corners ++ drop (length (plan .coordinates)) (d .corners) ≡ d .corners → ⊥) → d′ .corners ≡ d .corners → ⊥
-  moves-acknowledged moved stayed = moved (sym (R .corners) ∙ stayed)
+  moves-acknowledged moved stayed = moved (sym (R .followed .corners) ∙ stayed)
 
   -- boxes or corners that are not as first prepared once all moves are undone
   pub all-undone : modelAfter plan (lent d) (map callOf calls) .stack ≡ [] → (d′ .boxes ≡ d .boxes) × (d′ .corners ≡ d .corners) × (d′ .edges ≡ d .edges)
-  all-undone e = let first = R .undone e in (first .boxes, first .corners, first .edges)
+  all-undone e = let first = R .followed .undone e in (first .boxes, first .corners, first .edges)
 
   -- records that are lost or left over: the depth is how many entries the model's stack has
   pub depth-told : d′ .state .«undo_depth» ≡ length (modelAfter plan (lent d) (map callOf calls) .stack)
-  depth-told = ap (λ (s : State). s .«undo_depth») (R .leaves .state)
+  depth-told = ap (λ (s : State). s .«undo_depth») (R .followed .leaves .state)

@@ -41,12 +41,12 @@ use Rattle.model.specs.Numbers.{answerNumber}
 use Rattle.model.specs.Model.{Model, Line, standing, modelCall, answersFrom, modelFrom, opened, modelAnswers, modelAfter}
 use Rattle.model.specs.Prepared.{Prepared, planHeld, Sound}
 use Rattle.model.specs.Steps.{atDepth}
-use Rattle.model.specs.Demand.{Turn, callsOf, endOf, Fresh, Leaves, AsFirst, lent, markedAnswer}
+use Rattle.model.specs.Demand.{Turn, callsOf, Run, endOf, Fresh, Leaves, AsFirst, lent, markedAnswer}
 use Rattle.model.proofs.Theorem.{demand}
 use Rattle.model.proofs.Marked.{marked}
 use Rattle.replay.specs.declared.Outcome.{Outcome}
 use Rattle.replay.specs.declared.Outcome.the-variants.{Ran, Refused, AnswersTooShort}
-use Rattle.replay.specs.Replays.{Called, Replayed, ReplayedMarked, Lent, given, endState, refusedOr, judged, replaying, replayNumber, replayDetail, numberDue, detailDue, Left, Replays}
+use Rattle.replay.specs.Replays.{Called, Followed, Replayed, ReplayedMarked, Lent, given, endState, refusedOr, judged, replaying, replayNumber, replayDetail, numberDue, detailDue, Left, Replays}
 use Rattle.replay.proofs.Starting.{fresh, first-held, first-size}
 
 -- ---- the model looks at no tree's ring counts
@@ -57,7 +57,7 @@ kept-call plan room m Undo = refl
 kept-call plan room m (Locate p) = ap (λ (l : Location). record { answer = At (cond (inRange p) l Outside); left = m }) (kept-place (standing plan (m .corners)) p)
 kept-call plan room m (LocateDoubled p) = ap (λ rings. record { answer = At (cond (inDoubledRange p) (halfReply rings p) Outside); left = m }) (kept-rings (standing plan (m .corners)))
 
-pub kept-answers : (plan : Plan) (room : ℕ) (m : Model) (calls : List Call) → answersFrom (kept plan) room m calls ≡ answersFrom plan room m calls
+kept-answers : (plan : Plan) (room : ℕ) (m : Model) (calls : List Call) → answersFrom (kept plan) room m calls ≡ answersFrom plan room m calls
 unfolding answersFrom
 kept-answers plan room m [] = refl
 kept-answers plan room m (call ∷ calls) =
@@ -69,39 +69,45 @@ unfolding modelFrom
 kept-model plan room m [] = refl
 kept-model plan room m (call ∷ calls) = (λ t. modelFrom (kept plan) room (kept-call plan room m call t .left) calls) ∙ kept-model plan room (modelCall plan room m call .left) calls
 
--- ---- calls run on a prepared plan
-module _ (plan : Plan) (calls : List (List ℤ)) (d : Prepared) (was : List ℤ) (d′ : Prepared) (is : List ℤ) (r : Called calls d was d′ is) where
-  whole : take (length (r .turns)) (r .turns) ≡ r .turns
-  whole = take-all (length (r .turns)) (r .turns) (omega arith)
+-- ---- a run from a plan just prepared in range, as its calls for the plan handed in
+all-turns : (turns : List Turn) → take (length turns) turns ≡ turns
+all-turns turns = take-all (length turns) turns (omega arith)
 
-  -- in range
+module _ (plan : Plan) (calls : List Call) (d : Prepared) (turns : List Turn) (d′ : Prepared) (run : Run d turns) (calls-are : callsOf turns ≡ calls) (end : endOf d turns ≡ d′) where
   module _ (f : Fresh d) (held : planHeld d ≡ kept plan) (size : 2 * d .state .corners ≡ length (plan .coordinates)) where
-    same-answers : modelAnswers (planHeld d) (lent d) (callsOf (r .turns)) ≡ modelAnswers plan (lent d) (map callOf calls)
-    same-answers = (λ t. modelAnswers (held t) (lent d) (r .calls-are t)) ∙ kept-answers plan (lent d) (opened plan) (map callOf calls)
+    same-answers : modelAnswers (planHeld d) (lent d) (callsOf turns) ≡ modelAnswers plan (lent d) calls
+    same-answers = (λ t. modelAnswers (held t) (lent d) (calls-are t)) ∙ kept-answers plan (lent d) (opened plan) calls
 
-    same-model : modelAfter (planHeld d) (lent d) (callsOf (r .turns)) ≡ modelAfter plan (lent d) (map callOf calls)
-    same-model = (λ t. modelAfter (held t) (lent d) (r .calls-are t)) ∙ kept-model plan (lent d) (opened plan) (map callOf calls)
+    same-model : modelAfter (planHeld d) (lent d) (callsOf turns) ≡ modelAfter plan (lent d) calls
+    same-model = (λ t. modelAfter (held t) (lent d) (calls-are t)) ∙ kept-model plan (lent d) (opened plan) calls
 
-    pub replayed : Replayed plan calls d was d′ is
+    pub followed : Followed plan calls d turns d′
     unfolding planOf
-    replayed =
-        let w = demand d (r .turns) f (r .run) in
-        let leaves : Leaves d (modelAfter plan (lent d) (map callOf calls) .stack) d′ = transport (λ t. Leaves d (same-model t .stack) (r .end t)) (w .leaves) in
+    followed =
+        let w = demand d turns f run in
+        let leaves : Leaves d (modelAfter plan (lent d) calls .stack) d′ = transport (λ t. Leaves d (same-model t .stack) (end t)) (w .leaves) in
         let count : d′ .state .corners ≡ d .state .corners = ap (λ (s : State). s .corners) (leaves .state) in
-        let planned : take (2 * d′ .state .corners) (d′ .corners) ≡ modelAfter (planHeld d) (lent d) (callsOf (r .turns)) .corners = ap (λ (v : Prepared). planHeld v .coordinates) (sym (r .end)) ∙ ap (λ (q : Plan). q .coordinates) (w .corners) in
+        let planned : take (2 * d′ .state .corners) (d′ .corners) ≡ modelAfter (planHeld d) (lent d) (callsOf turns) .corners = ap (λ (v : Prepared). planHeld v .coordinates) (sym end) ∙ ap (λ (q : Plan). q .coordinates) (w .corners) in
         record {
-          called = r;
           demand = w;
-          answers = r .answers-are ∙ ap (λ (l : List Answer). map answerNumber l ++ drop (length calls) was) (w .answers ∙ same-answers);
+          answers = w .answers ∙ same-answers;
           corners =
               sym (take-append-drop (2 * d .state .corners) (d′ .corners))
               ∙ (λ t. (ap (λ (n : ℕ). take (2 * n) (d′ .corners)) (sym count) ∙ planned ∙ ap (λ (m : Model). m .corners) same-model) t ++ (leaves .corners-beyond ∙ ap (λ (n : ℕ). drop n (d .corners)) size) t);
-          sound = subst Sound (r .end) (w .sound);
+          sound = subst Sound end (w .sound);
           leaves = leaves;
           undone = λ e.
-              subst (AsFirst d) (ap (endOf d) whole ∙ r .end)
-              (w .undone (length (r .turns)) (ap (λ (l : List Turn). modelAfter (planHeld d) (lent d) (callsOf l) .stack) whole ∙ ap (λ (m : Model). m .stack) same-model ∙ e));
+              subst (AsFirst d) (ap (endOf d) (all-turns turns) ∙ end)
+              (w .undone (length turns) (ap (λ (l : List Turn). modelAfter (planHeld d) (lent d) (callsOf l) .stack) (all-turns turns) ∙ ap (λ (m : Model). m .stack) same-model ∙ e));
         }
+
+-- ---- calls run on a prepared plan
+module _ (plan : Plan) (calls : List (List ℤ)) (d : Prepared) (was : List ℤ) (d′ : Prepared) (is : List ℤ) (r : Called calls d was d′ is) where
+  -- in range
+  pub replayed : Fresh d → planHeld d ≡ kept plan → 2 * d .state .corners ≡ length (plan .coordinates) → Replayed plan calls d was d′ is
+  replayed f held size =
+      let w = followed plan (map callOf calls) d (r .turns) d′ (r .run) (r .calls-are) (r .end) f held size in
+      record { called = r; followed = w; answers = r .answers-are ∙ ap (λ (l : List Answer). map answerNumber l ++ drop (length calls) was) (w .answers) }
 
   -- marked
   pub replayed-marked : d .state .«out_of_range» ≡ true → ReplayedMarked calls d was d′ is
@@ -109,7 +115,7 @@ module _ (plan : Plan) (calls : List (List ℤ)) (d : Prepared) (was : List ℤ)
       let w = marked (r .turns) d e (r .run) in
       record {
         answers = r .answers-are ∙ ap (λ (l : List Answer). map answerNumber l ++ drop (length calls) was) (w .answers ∙ ap (map markedAnswer) (r .calls-are));
-        left = sym (r .end) ∙ ap (endOf d) (sym whole) ∙ w .left (length (r .turns));
+        left = sym (r .end) ∙ ap (endOf d) (sym (all-turns (r .turns))) ∙ w .left (length (r .turns));
       }
 
 -- ---- the answer in numbers
@@ -209,7 +215,7 @@ module _ (plan : Plan) (before : Lent) (calls : List (List ℤ)) where
         end-is = go (planInRange plan) refl
           where
             go : (b : Bool) → planInRange plan ≡ b → end ≡ endState plan (length (before .undo)) calls
-            go true e = near e .leaves .state ∙ (λ t. cond (sym e t) (atDepth (is t) (length (modelAfter plan (length (before .undo)) (map callOf calls) .stack))) (stateOf plan))
+            go true e = near e .followed .leaves .state ∙ (λ t. cond (sym e t) (atDepth (is t) (length (modelAfter plan (length (before .undo)) (map callOf calls) .stack))) (stateOf plan))
             go false e = ap (λ (v : Prepared). v .state) (stray e .left) ∙ (λ t. cond (sym e t) (atDepth (stateOf plan) (length (modelAfter plan (length (before .undo)) (map callOf calls) .stack))) (is t))
 
         pub replay-ran : Replays plan before after calls (Ran end)

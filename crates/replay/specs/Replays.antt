@@ -18,6 +18,7 @@ use Rattle.prepare.specs.declared.Room.{Room}
 use Rattle.prepare.specs.Answers.{preparing, stateOf, shortTable}
 use Rattle.prepare.specs.Tables as Preparing-tables
 use Rattle.prepare.specs.Tables.{Tables, roomOf}
+use Rattle.model.specs.declared.Call.{Call}
 use Rattle.model.specs.Coded.{callOf}
 use Rattle.model.specs.Numbers.{answerNumber}
 use Rattle.model.specs.Model.{modelAnswers, modelAfter}
@@ -37,16 +38,20 @@ pub record Called (calls : List (List ℤ)) (d : Prepared) (was : List ℤ) (d�
   pub end : endOf d turns ≡ d′
   pub answers-are : is ≡ map answerNumber (answersOf turns) ++ drop (length calls) was
 
--- from a plan just prepared in range: the answers are the model's, so are the corners, the tables are sound and otherwise as they were, and
--- with nothing left to undo all is as first prepared. `demand` says it call by call
+-- a run from a plan just prepared in range to d′, for the plan handed in: the answers are the model's, so are the corners, the tables are sound
+-- and otherwise as they were, and with nothing left to undo all is as first prepared. `demand` says it call by call
+pub record Followed (plan : Plan) (calls : List Call) (d : Prepared) (turns : List Turn) (d′ : Prepared) : Type 0 where
+  pub demand : Demand d turns
+  pub answers : answersOf turns ≡ modelAnswers plan (lent d) calls
+  pub corners : d′ .corners ≡ modelAfter plan (lent d) calls .corners ++ drop (length (plan .coordinates)) (d .corners)
+  pub sound : Sound d′
+  pub leaves : Leaves d (modelAfter plan (lent d) calls .stack) d′
+  pub undone : modelAfter plan (lent d) calls .stack ≡ [] → AsFirst d d′
+
 pub record Replayed (plan : Plan) (calls : List (List ℤ)) (d : Prepared) (was : List ℤ) (d′ : Prepared) (is : List ℤ) : Type 0 where
   pub called : Called calls d was d′ is
-  pub demand : Demand d (called .turns)
+  pub followed : Followed plan (map callOf calls) d (called .turns) d′
   pub answers : is ≡ map answerNumber (modelAnswers plan (lent d) (map callOf calls)) ++ drop (length calls) was
-  pub corners : d′ .corners ≡ modelAfter plan (lent d) (map callOf calls) .corners ++ drop (length (plan .coordinates)) (d .corners)
-  pub sound : Sound d′
-  pub leaves : Leaves d (modelAfter plan (lent d) (map callOf calls) .stack) d′
-  pub undone : modelAfter plan (lent d) (map callOf calls) .stack ≡ [] → AsFirst d d′
 
 -- on a marked plan: 12 and outside, and nothing changes
 pub record ReplayedMarked (calls : List (List ℤ)) (d : Prepared) (was : List ℤ) (d′ : Prepared) (is : List ℤ) : Type 0 where
