@@ -143,9 +143,9 @@ fn answer_whole(input: &[u8], output: &mut [u8]) -> usize
 /// The lines before the first one whose first field is `coin` or `half` are the plan. It is judged first; then each later line is replied to
 /// in turn: its own bytes, a tab, and `inside`, `outside` or `boundary`. A refusal writes `refused`, its number and the line (0 where none),
 /// and nothing after it: 1 for an input of more than 16,384 bytes, 2 for the first line that breaks the format, 11 for a plan of more than
-/// 512 corners or 256 rings. All of these are `Written`. Refused with 11 (`OutputTooShort`), with nothing written, where the output has
-/// fewer bytes than the answer; no answer has more than 33,000. It takes up to 720 KiB of
-/// stack, most of it for look-ups that meet more than 128 rings.
+/// 512 corners or 256 rings. All of these are `Written`. It takes up to 720 KiB of stack, most of it for look-ups that meet more than 128 rings.
+///
+/// Refused with 11 (`OutputTooShort`), with nothing written, where the output has fewer bytes than the answer; no answer has more than 33,000.
 pub fn answer(input: &[u8], output: &mut [u8]) -> Outcome
     ensures { λ r. ⌜ Answered (now (input .entry)) (now (output .entry)) (now (output .exit)) r ⌝ }
 {

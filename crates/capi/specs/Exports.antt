@@ -23,7 +23,7 @@ use Rattle.prepared.specs.declared.first.First.{First}
 use Rattle.prepared.specs.declared.first.First as First
 use Rattle.query.specs.Calls.{LookedUp}
 use Rattle.prepared.specs.Calls.{Looked}
-use Rattle.prepared.specs.Firsts.{pointsVerdict, firstNumber, firstFound, firstPlace}
+use Rattle.prepared.specs.Firsts.{pointsVerdict, firstNumber}
 use Rattle.model.specs.declared.Answer.{Answer}
 use Rattle.model.specs.declared.Answer as Answer
 use Rattle.model.specs.declared.Call.{Call}
@@ -50,7 +50,17 @@ abbrev pub LooksUpByRings : (Point → Bool) → (Plan → Point → Location) �
 LooksUpByRings ranged location numbers corners rings polygons p answer =
     Replied (stateNamed numbers) (λ s reply. LookedUp s corners rings polygons (ranged p) (location (planOf s corners rings polygons) p) reply) answer
 
--- what a list of points is answered in numbers
+-- what a list of points is answered in numbers: the refusal, 1 where a point is not outside, and its place
+abbrev pub firstFound : First → ℕ
+firstFound (First.the-variants.At k) = 1
+firstFound First.the-variants.AllOutside = 0
+firstFound (First.the-variants.Refused refusal) = 0
+
+abbrev pub firstPlace : First → ℕ
+firstPlace (First.the-variants.At k) = k
+firstPlace First.the-variants.AllOutside = 0
+firstPlace (First.the-variants.Refused refusal) = 0
+
 abbrev pub firstNumbers : First → FirstAnswer
 firstNumbers first = record { refusal = firstNumber first; found = firstFound first; place = firstPlace first }
 

@@ -117,7 +117,7 @@ fn first_answer(first: First) -> FirstAnswer
 
 /// Prepares a plan of kind 0 (a list) or 1 (a tree) in the tables that it is lent: `prepare::prepare` in numbers.
 ///
-/// Refused with 4, 3, or 11 and its table, and with 15 where the kind is another number; then no table is written.
+/// Refused with 15 where the kind is another number, before all else, and then with 4, 3, or 11 and its table; no table is written then.
 #[no_mangle]
 pub extern "C" fn findspot_prepare(
     kind: usize,

@@ -136,7 +136,7 @@ fn at_end(stage: Stage, line: usize, unended: bool) -> Stage
     }
 }
 
-/// What a text comes to: the size of its plan, or the first line that breaks a rule.
+/// What a text comes to: the size of its plan, or 2 with the first line that breaks a rule, which is line 1 of an empty text.
 pub fn judge(text: &[u8]) -> Stage
     requires { ⌜ length (now text) ≤ 65536 ⌝ }
     ensures { λ r. ⌜ Judged (meaning (now (text .entry))) r ⌝ }

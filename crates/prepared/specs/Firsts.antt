@@ -50,17 +50,6 @@ firstNumber (At k) = 0
 firstNumber AllOutside = 0
 firstNumber (Refused refusal) = refusalNumber refusal
 
--- 1 where a point is not outside, and its place
-abbrev pub firstFound : First → ℕ
-firstFound (At k) = 1
-firstFound AllOutside = 0
-firstFound (Refused refusal) = 0
-
-abbrev pub firstPlace : First → ℕ
-firstPlace (At k) = k
-firstPlace AllOutside = 0
-firstPlace (Refused refusal) = 0
-
 -- 15 where neither 4 nor 3 is the refusal
 abbrev pub numberElse : First → ℕ
 numberElse (At k) = 0

@@ -84,7 +84,7 @@ pub struct Span {
 }
 
 /// Where line k of a text stands, counted from 1 and without its line end. Where there is no line k both numbers are 0. An unended last piece
-/// is a line. Nothing is refused.
+/// is a line; behind a last line end that piece is empty and stands at the text's end. Nothing is refused.
 pub fn line_span(text: &[u8], k: usize) -> Span
     ensures { λ r. ⌜ LineSpan (now (text .entry)) k r ⌝ }
 {

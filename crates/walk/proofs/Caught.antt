@@ -7,15 +7,17 @@ use Prim.Native.Nat.{ℕ, suc, _+_, _*_, _≤_, _<_}
 use native.Mathlib.Omega.{arith}
 use borrow.Author.Tests.{eq-eqb}
 use lib.Dec.{eqb}
-use lib.IntN.{ℤ}
+use lib.IntN.{ℤ, pos}
 use lib.ListN.{length, getD}
 use Rattle.geom.specs.declared.Point.{Point}
+use Rattle.geom.specs.declared.Rect.{Rect}
 use Rattle.rules.specs.Lists.{countOf}
 use Rattle.boxes.specs.Boxes.{rectAt, edgeBox}
 use Rattle.boxes.specs.Rings.{startOf, nextIn, edgeOf, RingAt}
 use Rattle.index.specs.Parts.{firstAt, countAt}
 use Rattle.walk.specs.declared.Cursor.{Cursor}
 use Rattle.walk.specs.declared.Query.{Query}
+use Rattle.walk.specs.declared.Query.the-variants.{Holding}
 use Rattle.walk.specs.declared.Node.{Node}
 use Rattle.walk.specs.declared.Node as Node
 use Rattle.walk.specs.declared.Node.the-variants.{Missed, Leaf, Cut}
@@ -31,6 +33,19 @@ use Rattle.walk.specs.Places.{PlaceSound, PlanReach, IndexReach, PlaceSa
 use Rattle.walk.specs.Steps.{stepNumber, enters, Lent, Inside, NodeSays, WalkSound, Begun, Says, stopNumber, Walking, StopSays}
 use Rattle.walk.specs.Walks.{Walked}
 use Rattle.walk.proofs.Walked.{begun, stepped, some-edges, all-met, never-unsound}
+
+-- a box that holds a rectangle is entered by a walk to boxes that hold it, and one that it holds is not
+abbrev small : Rect
+small = record { min = record { x = pos 1; y = pos 1 }; max = record { x = pos 2; y = pos 2 } }
+
+abbrev large : Rect
+large = record { min = record { x = pos 0; y = pos 0 }; max = record { x = pos 3; y = pos 3 } }
+
+pub holder-entered : enters (Holding small) large ≡ true
+holder-entered = refl
+
+pub held-passed : enters (Holding large) small ≡ false
+held-passed = refl
 
 -- a node whose numbers are inside their tables and whose box is not entered is passed over: a walk that skips no box is none
 pub passed-over : (boxes : List (List ℤ)) (parts : List (List ℕ)) (n nodes : ℕ) (query : Query) (p : ℕ) → Inside parts n nodes p → enters query (rectAt boxes p) ≡ false → (r : Node) → NodeSays boxes parts n nodes query p r

@@ -83,6 +83,7 @@ fn check_point(now: &Prepared, book: &Model, [kind, _, x, y]: [i64; 4]) -> [i64;
         assert_eq!(now.locate(query), reply, "{query:?}");
         assert_eq!(now.locate_by_rings(query), reply, "{query:?}");
         assert_eq!(anew.locate(query), reply, "{query:?}");
+        assert_eq!(anew.locate_by_rings(query), reply, "{query:?}");
         assert_eq!(locate_in_plan(book.plan(), query), reply, "{query:?}");
     }
     [replies[0].into(), replies[1].into()]

@@ -130,21 +130,26 @@ fn comes(tables: &Tables, n: usize, e: usize) -> bool {
         .contains(&e)
 }
 
+/// The ring of n corners, prepared in tables that are sound.
+fn prepared(spread: Spread, n: usize) -> Tables {
+    let plan = spread.plan(n);
+    let prepared = Prepared::new(&plan);
+    assert_eq!(check(&plan, &prepared, Cuts::AsPrepared), Ok(()));
+    prepared.tables
+}
+
 /// The rings of 0 to 120 corners together.
 fn small(spread: Spread, asked: Asked) -> Tally {
     let mut tally = Tally::default();
     for n in 0..=120 {
-        let plan = spread.plan(n);
-        let prepared = Prepared::new(&plan);
-        assert_eq!(check(&plan, &prepared, Cuts::AsPrepared), Ok(()));
-        tally.add(searched(&prepared.tables, n, asked));
+        tally.add(searched(&prepared(spread, n), n, asked));
     }
     tally
 }
 
 /// Every field of every box, of every part and every edge number of n edges, put to each extreme in turn.
 fn damaged(spread: Spread, asked: Asked, n: usize) -> [Tally; 3] {
-    let Prepared { mut tables, .. } = Prepared::new(&spread.plan(n));
+    let mut tables = prepared(spread, n);
     let [mut boxes, mut parts, mut edges] = [Tally::default(); 3];
     for place in 0..tables.boxes.len() {
         for j in 0..4 {
@@ -271,7 +276,7 @@ fn walks_at_the_ceiling() {
         (3_145_728, 1_048_576),
     ];
     for (spread, (meeting, holding)) in SPREADS.into_iter().zip(due) {
-        let Prepared { tables, .. } = Prepared::new(&spread.plan(n));
+        let tables = prepared(spread, n);
         let met = walked(&tables, n, Search::Meeting);
         assert_eq!(met, Tally::of(meeting, 12, 0), "{spread:?}");
         let held = walked(&tables, n, Search::Holding);
