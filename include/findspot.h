@@ -14,6 +14,12 @@ extern "C" {
 
 FINDSPOT_STATIC_ASSERT(sizeof(size_t) == 8, "the library counts with 64 bits");
 
+/*
+ * What is lent, for every call below. A text or a table is a pointer and a count: so many entries stand from there on, and no byte beside them is
+ * read or written. The pointer is not NULL, even where the count is 0. A table that a call writes overlaps nothing else that the call is lent.
+ * Meanwhile nobody else writes what is lent, or reads a table that the call writes. Which numbers the entries are is free.
+ */
+
 /* A place as one number, or minus the number of a refusal. */
 enum {
     FINDSPOT_OUTSIDE = 0,
@@ -58,7 +64,7 @@ enum {
 /*
  * Where the point (x, y) lies in the plan that a text gives.
  *
- * The text is `length` bytes from `text` on, which is not NULL; they are only read, and no byte beside them is.
+ * The text is `length` bytes from `text` on, which are only read (see "What is lent").
  * One record a line, fields parted by tabs, each line ended by byte 10: `plan`, alone or with `list` or `tree`;
  * then `outer` and `hole` (lists) or `node` (trees), which open a ring; `at`, x, y, which is a corner of it.
  *
@@ -87,7 +93,7 @@ FINDSPOT_STATIC_ASSERT(sizeof(findspot_reading) == 6 * 8, "six numbers");
  *
  * Refused, in this order, with 1, 2 and its line, or 11 and its table: corners, rings (`lengths`) or polygons (`counts`). The text is judged whole
  * before a table is looked at. A text of n bytes has at most n / 7 corners, n / 5 rings and n / 6 polygons; the largest has 9,360, 13,106 or
- * 10,921 of them. A tree needs no room for polygons.
+ * 10,921 of them. A tree needs no room for polygons: `count_count` may be 0, though `counts` is not NULL (see "What is lent").
  */
 findspot_reading findspot_read_plan(const uint8_t *text, size_t length, int64_t *corners, size_t corner_count, size_t *lengths,
                                     size_t length_count, size_t *counts, size_t count_count);
@@ -101,13 +107,13 @@ FINDSPOT_STATIC_ASSERT(sizeof(findspot_span) == 2 * 8, "two numbers");
 
 /*
  * Line k of a text, counted from 1, without its line end; both numbers are 0 where there is no line k. A last piece that is not ended is a line.
- * Any bytes will do, of any length.
+ * Behind a last line feed stands one more piece, empty, at the text's end: for `plan\n` k = 2 gives 5, 0, and k = 3 gives 0, 0.
+ * Any bytes will do, of any length (see "What is lent").
  */
 findspot_span findspot_line(const uint8_t *text, size_t length, size_t k);
 
 /*
- * Prepared plans. The caller lends every table and keeps the state; a table is a pointer that is not NULL and how many entries it has.
- * A table that a call writes overlaps no other table of that call, and nobody else writes any of them meanwhile.
+ * Prepared plans. The caller lends every table (see "What is lent") and keeps the state.
  *
  * Boxes, parts and undo records are rows of numbers, one behind the other, and their counts are of rows: a box is four numbers (least x, least y,
  * greatest x, greatest y), a part three (first place, number of places, left child's place), an undo record three (corner, old x, old y).

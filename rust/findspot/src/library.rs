@@ -281,6 +281,19 @@ fn coordinates_of(points: &[Point]) -> usize {
     points.len().checked_mul(2).expect("a slice is shorter")
 }
 
+/// A list that is written, as the library takes it: where it begins and its length. Both are taken here, at once, since no reference to the list
+/// may be made while the pointer to write it is held.
+fn lent<T>(list: &mut [T]) -> (*mut T, usize) {
+    let length = list.len();
+    (list.as_mut_ptr(), length)
+}
+
+/// The same of points. A point is two numbers x, y by its fixed layout, so a list of points is one of twice as many numbers.
+fn lent_points(points: &mut [Point]) -> (*mut i64, usize) {
+    let coordinates = coordinates_of(points);
+    (points.as_mut_ptr().cast(), coordinates)
+}
+
 /// The answer to a point asked of a text: a place's number, or minus the refusal number.
 pub(crate) fn locate_text(text: &[u8], point: Point) -> i64 {
     // SAFETY: pointer and length are those of one slice, which outlives the call and is only read.
@@ -294,20 +307,20 @@ pub(crate) fn read_plan(
     lengths: &mut [usize],
     counts: &mut [usize],
 ) -> Reading {
-    // taken first: no reference to a list is made while a pointer to write it is held
-    let coordinates = coordinates_of(corners);
+    let (corners, corners_length) = lent_points(corners);
+    let (lengths, lengths_length) = lent(lengths);
+    let (counts, counts_length) = lent(counts);
     // SAFETY: each pointer and length are those of one list, which outlives the call. The lists that are written are borrowed for it alone.
-    // A point is two numbers x, y by its fixed layout, so a list of points is one of twice as many numbers.
     unsafe {
         findspot_read_plan(
             text.as_ptr(),
             text.len(),
-            corners.as_mut_ptr().cast(),
-            coordinates,
-            lengths.as_mut_ptr(),
-            lengths.len(),
-            counts.as_mut_ptr(),
-            counts.len(),
+            corners,
+            corners_length,
+            lengths,
+            lengths_length,
+            counts,
+            counts_length,
         )
     }
 }
@@ -333,10 +346,13 @@ impl Tables {
         lengths: &[usize],
         counts: &[usize],
     ) -> Preparing {
-        // taken first: no reference to a list is made while a pointer to write it is held
-        let coordinates = coordinates_of(&self.corners);
+        let (corners_lent, corners_length) = lent_points(&mut self.corners);
+        let (rings, rings_length) = lent(&mut self.rings);
+        let (polygons, polygons_length) = lent(&mut self.polygons);
+        let (boxes, boxes_length) = lent(&mut self.boxes);
+        let (parts, parts_length) = lent(&mut self.parts);
+        let (edges, edges_length) = lent(&mut self.edges);
         // SAFETY: each pointer and length are those of one list, which outlives the call. The lists that are written are borrowed for it alone.
-        // A point is two numbers x, y by its fixed layout, so a list of points is one of twice as many numbers.
         unsafe {
             findspot_prepare(
                 kind,
@@ -346,18 +362,18 @@ impl Tables {
                 lengths.len(),
                 counts.as_ptr(),
                 counts.len(),
-                self.corners.as_mut_ptr().cast(),
-                coordinates,
-                self.rings.as_mut_ptr(),
-                self.rings.len(),
-                self.polygons.as_mut_ptr(),
-                self.polygons.len(),
-                self.boxes.as_mut_ptr(),
-                self.boxes.len(),
-                self.parts.as_mut_ptr(),
-                self.parts.len(),
-                self.edges.as_mut_ptr(),
-                self.edges.len(),
+                corners_lent,
+                corners_length,
+                rings,
+                rings_length,
+                polygons,
+                polygons_length,
+                boxes,
+                boxes_length,
+                parts,
+                parts_length,
+                edges,
+                edges_length,
             )
         }
     }
@@ -456,24 +472,25 @@ impl Tables {
         corner: usize,
         place: Point,
     ) -> Correction {
-        // taken first: no reference to a list is made while a pointer to write it is held
-        let coordinates = coordinates_of(&self.corners);
+        let (corners, corners_length) = lent_points(&mut self.corners);
+        let (boxes, boxes_length) = lent(&mut self.boxes);
+        let (undo, undo_length) = lent(undo);
         // SAFETY: each pointer and length are those of one list, which outlives the call. Those that are written are borrowed for it alone.
         unsafe {
             findspot_move(
                 state,
-                self.corners.as_mut_ptr().cast(),
-                coordinates,
+                corners,
+                corners_length,
                 self.rings.as_ptr(),
                 self.rings.len(),
-                self.boxes.as_mut_ptr(),
-                self.boxes.len(),
+                boxes,
+                boxes_length,
                 self.parts.as_ptr(),
                 self.parts.len(),
                 self.edges.as_ptr(),
                 self.edges.len(),
-                undo.as_mut_ptr(),
-                undo.len(),
+                undo,
+                undo_length,
                 corner,
                 place.x,
                 place.y,
@@ -483,18 +500,18 @@ impl Tables {
 
     /// Takes the latest move back. Refused, it leaves all as it was.
     pub(crate) fn undo(&mut self, state: State, undo: &[[i64; 3]]) -> Correction {
-        // taken first: no reference to a list is made while a pointer to write it is held
-        let coordinates = coordinates_of(&self.corners);
+        let (corners, corners_length) = lent_points(&mut self.corners);
+        let (boxes, boxes_length) = lent(&mut self.boxes);
         // SAFETY: as `move_corner`; the undo table is only read.
         unsafe {
             findspot_undo(
                 state,
-                self.corners.as_mut_ptr().cast(),
-                coordinates,
+                corners,
+                corners_length,
                 self.rings.as_ptr(),
                 self.rings.len(),
-                self.boxes.as_mut_ptr(),
-                self.boxes.len(),
+                boxes,
+                boxes_length,
                 self.parts.as_ptr(),
                 self.parts.len(),
                 self.edges.as_ptr(),

@@ -189,3 +189,37 @@ impl fmt::Display for Refusal {
 }
 
 impl Error for Refusal {}
+
+#[cfg(test)]
+mod tests {
+    use super::{Refusal, Table};
+    use std::panic::catch_unwind;
+
+    /// Document 01's order of the tables, in which refusal 11 names the first that is too short.
+    const TABLES: [Table; 5] = [
+        Table::Corners,
+        Table::Rings,
+        Table::Polygons,
+        Table::Nodes,
+        Table::Edges,
+    ];
+
+    #[test]
+    fn a_table_has_its_number_of_document_01() {
+        for (number, table) in (1..).zip(TABLES) {
+            assert_eq!(Table::of_number(number), table);
+            let refusal = Refusal::of_number(11, number);
+            assert_eq!(refusal, Refusal::TableTooShort(table));
+        }
+    }
+
+    #[test]
+    fn no_other_number_is_taken_for_a_table() {
+        for number in [0, 6, usize::MAX] {
+            let answer = catch_unwind(|| Table::of_number(number));
+            let said = answer.expect_err("there is no such table");
+            let said = said.downcast::<String>().expect("a message");
+            assert!(said.ends_with(&format!("it names table {number}")));
+        }
+    }
+}

@@ -73,6 +73,14 @@ pub(crate) fn read(text: &[u8]) -> Result<Plan, Refusal> {
     Ok(Plan::from_tables(kind, corners, lengths, counts))
 }
 
+/// Whether a text's header opens a list: the library reads the header alone, so that what a header means is said nowhere else.
+fn is_list(text: &[u8]) -> bool {
+    let header = library::line(text, 1);
+    let end = text.len().min(header.length + 1);
+    let reading = library::read_plan(&text[..end], &mut [], &mut [], &mut []);
+    reading.refusal == 0 && Kind::of_number(reading.kind) == Kind::List
+}
+
 /// What breaks the format in the first line that does, as far as the line and the header tell. It is there for people to read: the library
 /// alone says which line it is.
 pub(crate) fn fault(text: &[u8], number: usize) -> &'static str {
@@ -99,7 +107,7 @@ pub(crate) fn fault(text: &[u8], number: usize) -> &'static str {
         [b"at", _, _] if number == 2 => "a corner needs a ring before it",
         [b"at", _, _] => "a number is not decimal, of 64 bits and in its shortest form",
         [b"at", ..] => "`at` goes with x and y",
-        [b"hole"] if line(text, 1) != b"plan\ttree" => "a hole needs an `outer` before it",
+        [b"hole"] if is_list(text) => "a hole needs an `outer` before it",
         [b"outer" | b"hole" | b"node"] => "a list has `outer` and `hole`, a tree `node`",
         [b"outer" | b"hole" | b"node", ..] => "the word that opens a ring goes alone",
         _ => "it starts with none of the words `outer`, `hole`, `node` and `at`",

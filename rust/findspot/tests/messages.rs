@@ -199,7 +199,7 @@ fn a_message_is_the_number_what_is_wrong_and_what_to_do() {
 }
 
 /// Texts, each with its first bad line and what is wrong with that line.
-const FAULTS: [(&[u8], usize, &str); 17] = [
+const FAULTS: [(&[u8], usize, &str); 18] = [
     (b"", 1, "the text is empty"),
     (b"plan\nouter", 2, "it is not ended by a line feed"),
     (b"plan\r\n", 1, "it has a carriage return"),
@@ -228,6 +228,11 @@ const FAULTS: [(&[u8], usize, &str); 17] = [
     ),
     (b"plan\nouter\nat\t1\n", 3, "`at` goes with x and y"),
     (b"plan\nhole\n", 2, "a hole needs an `outer` before it"),
+    (
+        b"plan\tlist\nhole\n",
+        2,
+        "a hole needs an `outer` before it",
+    ),
     (
         b"plan\ttree\nhole\n",
         2,
@@ -268,6 +273,9 @@ fn what_is_wrong_with_a_line_is_said_beside_it() {
     }
     let other = Refusal::NothingToUndo;
     assert_eq!(other.explain(b""), other.to_string());
+    // a header that is none tells no kind
+    let stray = Refusal::BadLine(2).explain(b"plan\tforest\nhole\n");
+    assert!(stray.contains("a list has `outer` and `hole`, a tree `node`"));
 }
 
 #[test]

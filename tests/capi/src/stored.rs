@@ -1,7 +1,7 @@
 //! Tables that a delivery prepared and corrected, as text: a set a block, so that they can be kept and read again after later deliveries.
 //!
-//! `data/README.md` says what each line of a set holds. Lines are found by their names, and one that a set has not is an empty table: a
-//! delivery that lends a table more reads the sets of an earlier one with none of it.
+//! `data/README.md` says what each line of a set holds. Lines are found by their names. A table that a later delivery lends beside these has no
+//! line in the sets of an earlier one: it is read as that delivery says open plans come with it.
 
 use crate::exports::State;
 use crate::prepared::{Prepared, Tables};
@@ -251,15 +251,16 @@ impl<'a> Block<'a> {
         }
     }
 
+    /// The tables. Their rows are as wide as they were written, whatever width those of a later delivery have.
     fn tables(&self) -> Result<Tables, String> {
         Ok(Tables {
             corners: self.table::<_, 1>("corners", LENT)?.into_flattened(),
             rings: self.table::<_, 1>("rings", LENT_COUNT)?.into_flattened(),
             polygons: self.table::<_, 1>("polygons", LENT_COUNT)?.into_flattened(),
-            boxes: self.table("boxes", LENT)?,
-            parts: self.table("parts", LENT_COUNT)?,
+            boxes: self.table::<_, 4>("boxes", LENT)?,
+            parts: self.table::<_, 3>("parts", LENT_COUNT)?,
             edges: self.table::<_, 1>("edges", LENT_COUNT)?.into_flattened(),
-            undo: self.table("undo", LENT)?,
+            undo: self.table::<_, 3>("undo", LENT)?,
         })
     }
 

@@ -174,3 +174,27 @@ fn tables_shorter_than_the_state_says_get_15() {
     assert_eq!(refused(&now, move_to(0, (1, 1))), 13);
     assert_eq!(refused(&now, Call::Undo), 15);
 }
+
+/// An undo whose latest record is this one, of a square with two moves made.
+fn undone_by(record: [i64; 3]) -> u64 {
+    let mut now = prepared(&square(), 2);
+    assert_eq!(now.correct(move_to(1, (5, 5))), Ok(()));
+    assert_eq!(now.correct(move_to(2, (7, 7))), Ok(()));
+    now.tables.undo[1] = record;
+    refused(&now, Call::Undo)
+}
+
+#[test]
+fn a_latest_record_of_no_corner_or_of_a_place_out_of_range_gets_15() {
+    let corners = 4;
+    for corner in [corners, -1, i64::MIN, i64::MAX] {
+        assert_eq!(undone_by([corner, 3, 3]), 15, "corner {corner}");
+    }
+    for far in [GRID_LIMIT + 1, -GRID_LIMIT - 1, i64::MIN, i64::MAX] {
+        assert_eq!(undone_by([2, far, 3]), 15, "x {far}");
+        assert_eq!(undone_by([2, 3, far]), 15, "y {far}");
+    }
+    for near in [GRID_LIMIT, -GRID_LIMIT] {
+        assert_eq!(undone_by([corners - 1, near, near]), 0);
+    }
+}

@@ -138,8 +138,9 @@ fn tables_are_sound_and_hold_what_the_calls_came_to() {
         } else {
             assert_eq!(*nodes, 0);
             assert!(tables.corners.starts_with(&plan.coordinates));
-            assert!(tables.edges.iter().all(|&edge| edge == LENT_COUNT));
             assert!(tables.boxes.iter().all(|&row| row == [LENT; 4]));
+            assert!(tables.parts.iter().all(|&row| row == [LENT_COUNT; 3]));
+            assert!(tables.edges.iter().all(|&edge| edge == LENT_COUNT));
         }
     });
 }
@@ -224,7 +225,8 @@ fn undos_lead_back_to_the_tables_first_prepared() {
         assert_eq!(now.correct(Call::Undo), Err(empty));
         assert_eq!(now, first);
         if set.handed.in_range() {
-            assert_eq!(soundness::check(&set.handed, &now, Cuts::AsTheyAre), Ok(()));
+            let checked = soundness::check(&set.handed, &now, Cuts::AsPrepared);
+            assert_eq!(checked, Ok(()));
         }
         check_look_ups(random, &set.handed, &now, 8);
     });

@@ -211,6 +211,16 @@ fn lines_are_found_in_any_bytes() {
     }
 }
 
+/// As the header says: behind a last line feed stands one more piece.
+#[test]
+fn behind_a_last_line_feed_stands_an_empty_line() {
+    let span = |offset, length| Span { offset, length };
+    assert_eq!(line(b"plan\n", 1), span(0, 4));
+    assert_eq!(line(b"plan\n", 2), span(5, 0));
+    assert_eq!(line(b"plan\n", 3), span(0, 0));
+    assert_eq!(line(b"plan", 2), span(0, 0));
+}
+
 /// Document 01's N(n), each value computed once: a level has two of them.
 fn stated(n: usize, known: &mut BTreeMap<usize, usize>) -> usize {
     if n <= 8 {

@@ -243,6 +243,7 @@ fn tables_shorter_than_the_state_says_get_15() {
         let mut tables = prepared.tables.clone();
         change(&mut tables);
         assert_eq!(tables.locate(state, Query::grid(5, 5)), -15);
+        assert_eq!(tables.locate(state, Query::doubled(11, 11)), -15);
         assert_eq!(tables.first_not_outside(state, &[5, 5]), Err(15));
         // out of range is outside before a table is read
         assert_eq!(tables.locate(state, Query::grid(GRID_LIMIT + 1, 5)), 0);

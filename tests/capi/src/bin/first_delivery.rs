@@ -1,8 +1,8 @@
 //! Wrote `data/first_delivery.txt`, tables that the engine of the first delivery prepared and corrected, from a seed.
 //!
 //! It must not be run again with a later engine. Open plans outlive deliveries: the data show that tables of the first delivery are still
-//! taken, which tables that a later engine makes cannot show. So it stops where the file is there. It stays as the account of how each set
-//! was made.
+//! taken, which tables that a later engine makes cannot show. So it stops where the file is there. It is kept as it was made, and may stop
+//! making the same: the lasting account of a set is its own plan and calls (`data/README.md`).
 
 use capi::prepared::{Prepared, Tables};
 use capi::stored::{LENT, LENT_COUNT, Stored};
