@@ -48,7 +48,7 @@ namesEdges n edges f m = leb (f + m) (length edges) && eachBelow (λ k. ltb (get
 abbrev pub isFit : ℕ → ℕ → List ℤ → List ℕ → List ℕ → Node → Bool
 isFit n count corners rings edges m = leb (2 * n) (length corners) && (endsRise n count rings && namesEdges n edges (m .first) (m .count))
 
--- a node is cut, since more than 8 edges are its part (item 5), and both its children's places are below `len`
+-- a node is cut, that is, its part has more than 8 edges (item 5), and both its children's places are below `len`
 abbrev pub hasChildren : Node → ℕ → Bool
 hasChildren m len = ltb 8 (m .count) && ltb (m .child + 1) len
 

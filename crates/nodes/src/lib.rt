@@ -196,7 +196,7 @@ pub fn put_node(nodes: &mut [Node], p: usize, node: Node) -> NodeWritten
 ///
 /// Refused with 15 (`Unsound`) where the list has no place p, its part leaves the edge list or names an edge that is not one of n, the
 /// corner table has fewer than n corners, or the ends of the `count` rings do not rise to n: never on sound tables. A refused list stays
-/// as it was. The cost is one pass over the ends of all rings, and one over the part.
+/// as it was. The cost is one pass over the ends of all rings, and two over the part.
 pub fn refit_leaf(
     nodes: &mut [Node],
     corners: &[i64],

@@ -1,10 +1,11 @@
 // Node records beside the tables of numbers (document 01, "then as a lent list of node records").
 //
-// A plan is prepared and its index put into an array of node records, node by node. Each call is refused once for every reason that it has,
-// and the records have to be as they were. Then each corner in turn is moved, and the records are refitted along the paths to its two edges.
-// After every move each record is read and held to the row of boxes and parts that the engine's own refit left.
+// A plan is prepared and its index put into an array of node records, node by node. Then each corner in turn is moved, and the records are
+// refitted along the paths to its two edges. After every move each record is read and held to the row of boxes and parts that the engine's
+// own refit left.
 //
-// One plan has 20 corners and so seven nodes, the other 8 and so a leaf at the root; both have three rings, the second of them empty.
+// One plan has 20 corners and so seven nodes, the other 8 and so a leaf at the root; both have three rings, the second of them empty. Over the
+// larger one each call is refused once for every reason that it has, and the records have to be as they were.
 mod list;
 
 use corrections::move_corner;
@@ -278,7 +279,8 @@ fn both_refitted(
     refitted(started, corners, rings, boxes, parts, edges, n, before)
 }
 
-// Moves each corner in turn, once far out and once back in, so many moves together. Whether every move is accepted and the records are then what the tables are.
+// Moves each corner in turn, once far out and once back in, so many moves together. Whether every move is accepted and the records are
+// then what the tables are.
 fn moved(
     nodes: [Node; 7],
     state: State,
@@ -412,11 +414,12 @@ fn write_whether(name: &[u8], held: bool) {
 
 // What tables of other lengths or numbers get, for the leaf at place 6 of a plan of 20 corners in three rings.
 fn refused_tables(nodes: [Node; 7], corners: &[i64], rings: &[usize], edges: &[usize]) {
+    let few: [i64; 38] = [0; 38];
     let falling: [usize; 3] = [9, 8, 20];
     let nowhere: [usize; CORNERS] = [20; CORNERS];
     write_whether(
         b"too few corners refused",
-        refused(nodes, corners, rings, edges, 21, 3, 6, NOWHERE),
+        refused(nodes, &few, rings, edges, 20, 3, 6, NOWHERE),
     );
     write_whether(
         b"too few rings refused",

@@ -48,6 +48,7 @@ pub record Followed (plan : Plan) (calls : List Call) (d : Prepared) (turns : Li
   pub leaves : Leaves d (modelAfter plan (lent d) calls .stack) d′
   pub undone : modelAfter plan (lent d) calls .stack ≡ [] → AsFirst d d′
 
+-- coded calls run from a plan just prepared in range: what was run, what follows for the plan, and the numbers written
 pub record Replayed (plan : Plan) (calls : List (List ℤ)) (d : Prepared) (was : List ℤ) (d′ : Prepared) (is : List ℤ) : Type 0 where
   pub called : Called calls d was d′ is
   pub followed : Followed plan (map callOf calls) d (called .turns) d′

@@ -1,5 +1,5 @@
 -- Wrong walks, edges and places that the contracts rule out, whatever the code is. Each stands on sound tables, a walk with one that
--- starts over a stack of zeros, or on tables too short. Assumes nothing.
+-- starts over a stack of zeros, on tables too short, or on two boxes alone. Assumes nothing.
 use mathlib.Core.Path.{_≡_, refl, sym, ap, _∙_}
 use mathlib.Core.Bool.{true, false, true≢false}
 use mathlib.Core.List.{List, [], _∷_}

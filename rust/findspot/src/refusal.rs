@@ -205,7 +205,7 @@ mod tests {
     ];
 
     #[test]
-    fn a_table_has_its_number_of_document_01() {
+    fn tables_are_numbered_in_the_order_in_which_they_are_looked_at() {
         for (number, table) in (1..).zip(TABLES) {
             assert_eq!(Table::of_number(number), table);
             let refusal = Refusal::of_number(11, number);

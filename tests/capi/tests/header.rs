@@ -1,5 +1,6 @@
-//! The constants of `include/findspot.h` against document 01's numbers, written down here a second time. The compilers hold the header's
-//! declarations together; of a number they cannot know that it is the right one.
+//! The constants of `include/findspot.h` against document 01's numbers and, for tables and kinds, which have an order or a name alone there, this
+//! repository's, written down a second time. The compilers hold the header's declarations together; of a number they cannot know that it is
+//! the right one.
 
 use std::collections::BTreeMap;
 
