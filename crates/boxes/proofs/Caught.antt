@@ -6,7 +6,6 @@ use Prim.Native.Nat.{ℕ, _≤_}
 use native.Mathlib.Omega.{arith}
 use lib.IntN.{ℤ, pos}
 use lib.ListN.{getD}
-use Rattle.geom.specs.declared.Point.{Point}
 use Rattle.geom.specs.declared.Rect.{Rect}
 use Rattle.boxes.specs.Boxes.{edgeBox, boxOf, rowOf}
 use Rattle.boxes.specs.Rings.{startOf, nextFrom, nextCorner, nextIn, edgeOf, RingAt}

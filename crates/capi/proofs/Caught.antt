@@ -11,7 +11,7 @@ use borrow.Author.Tests.{lt-ltb}
 use Rattle.geom.specs.declared.Point.{Point}
 use Rattle.rules.specs.declared.Location.{Location}
 use Rattle.rules.specs.declared.Location.the-variants.{Outside, Inside, OnBoundary}
-use Rattle.rules.specs.declared.Refusal.the-variants.{TextTooLong, Unsound}
+use Rattle.rules.specs.declared.Refusal.the-variants.{TextTooLong}
 use Rattle.rules.specs.declared.Reply.the-variants.{Refused}
 use Rattle.rules.specs.Numbers.{locationNumber, replyNumber}
 use Rattle.rules.specs.Plans.{planReply}

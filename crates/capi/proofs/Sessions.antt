@@ -6,7 +6,7 @@ use mathlib.Core.List.{List, [], _∷_, map}
 use Prim.Native.Nat.{ℕ}
 use native.Mathlib.Omega.{arith}
 use lib.IntN.{ℤ, pos}
-use lib.ListN.{length, take}
+use lib.ListN.{length}
 use lib.Seq.{take-all}
 use Rattle.geom.specs.declared.Point.{Point}
 use Rattle.geom.specs.Range.{inRange, inDoubledRange}
@@ -19,7 +19,7 @@ use Rattle.rules.specs.declared.Reply.{Reply}
 use Rattle.rules.specs.declared.Reply as Reply
 use Rattle.rules.specs.declared.State.{State}
 use Rattle.rules.specs.Numbers.{refusalNumber, replyNumber}
-use Rattle.rules.specs.Plans.{Plan, planInRange, planReply, planHalfReply}
+use Rattle.rules.specs.Plans.{Plan, planReply, planHalfReply}
 use Rattle.rules.specs.Tables.{planOf}
 use Rattle.prepare.specs.declared.Preparing.{Preparing}
 use Rattle.prepare.specs.declared.Preparing as Preparing
@@ -34,7 +34,7 @@ use Rattle.corrections.specs.declared.Corrected.{Corrected}
 use Rattle.model.specs.declared.Answer.{Answer}
 use Rattle.model.specs.declared.Call.{Call}
 use Rattle.model.specs.declared.Call.the-variants.{Move, Undo, Locate, LocateDoubled}
-use Rattle.model.specs.Demand.{Turn, callsOf, answersOf, Run, endOf, markedAnswer}
+use Rattle.model.specs.Demand.{Turn, Run, endOf, markedAnswer}
 use Rattle.model.specs.Numbers.{answerOf, answerNumber}
 use Rattle.model.specs.declared.Early.{Early}
 use Rattle.model.specs.declared.Early.the-variants.{Open, Settled}

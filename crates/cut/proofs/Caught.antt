@@ -1,7 +1,7 @@
 -- Wrong programs that the contracts rule out, whatever their code is: what a promise gives where such a program gives something else.
 -- Assumes nothing.
 use mathlib.Core.Path.{_≡_, refl}
-use lib.IntN.{ℤ, pos}
+use lib.IntN.{pos}
 use Rattle.geom.specs.declared.Rect.{Rect}
 use Rattle.cut.specs.declared.keys.Axis.the-variants.{X}
 use Rattle.cut.specs.Keys.{axisOf, keyOf, packedOf}

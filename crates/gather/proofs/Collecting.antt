@@ -25,7 +25,7 @@ use Rattle.walk.proofs.Standing.{walking-at}
 use Rattle.walk.proofs.Walked.{length-most, over-to, begun, ended}
 use Rattle.gather.specs.declared.tally.Layout.{Layout}
 use Rattle.gather.specs.Tallies.{windingIn, onIn, Tallied}
-use Rattle.gather.specs.Collections.{WalkedSound, NotedTo, Told, ToldTo, NotedAll, ToldAll}
+use Rattle.gather.specs.Collections.{WalkedSound, NotedTo, ToldTo, NotedAll, ToldAll}
 
 -- ---- an edge more
 module _ (n count : ℕ) (corners : List ℤ) (rings edges : List ℕ) (ends : RingEnds n count rings) (few : n ≤ 1048576) (ray : Ray) (query : Query) (p : Point) where

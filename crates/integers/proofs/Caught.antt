@@ -2,7 +2,7 @@
 -- Assumes nothing.
 use mathlib.Core.Path.{_≡_, refl, sym, _∙_}
 use mathlib.Core.Bool.{Bool, true, false, not, Bool·beq}
-use lib.IntN.{ℤ, pos, negsuc, _-ℤ_}
+use lib.IntN.{pos, _-ℤ_}
 use Rattle.integers.specs.Halves.{ceilingHalf}
 use Rattle.integers.specs.declared.Signed.{Signed}
 use Rattle.integers.specs.declared.SignedWide.{SignedWide}

@@ -1,5 +1,5 @@
 -- What a call answers where its test holds and where it fails. Assumes nothing.
-use mathlib.Core.Path.{_≡_, refl, sym, subst}
+use mathlib.Core.Path.{_≡_, refl}
 use mathlib.Core.Bool.{Bool, true, false, not, _&&_}
 use mathlib.Core.List.{List}
 use Prim.Native.Nat.{ℕ, _≤_, _<_}

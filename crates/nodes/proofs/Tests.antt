@@ -4,14 +4,14 @@ use mathlib.Core.Path.{_≡_, refl, sym, ap, _∙_, subst}
 use mathlib.Core.Bool.{Bool, true, false, _&&_}
 use mathlib.Core.List.{List}
 use Prim.Native.Nat.{ℕ, zero, suc, _+_, _-_, _*_, _/_, _≤_, _<_}
-use native.Mathlib.Decide.{ℕ-discrete, decLt}
+use native.Mathlib.Decide.{ℕ-discrete}
 use native.Mathlib.Numerals.{add-one}
 use native.Mathlib.Omega.{arith}
 use borrow.Author.Tests.{lt-ltb, le-ltb, le-leb, lt-leb, eq-eqb, leb-true, ltb-true, eqb-true}
 use lib.Dec.{T, leb, ltb, eqb}
 use lib.IntN.{ℤ}
 use lib.ListN.{length, getD}
-use Rattle.integers.proofs.Tests.{T-true, and-true, and-none}
+use Rattle.integers.proofs.Tests.{T-true, and-true}
 use Rattle.boxes.specs.Boxes.{Names}
 use Rattle.boxes.specs.Rings.{startOf, RingEnds}
 use Rattle.boxes.proofs.Rings.{start-zero, start-suc}

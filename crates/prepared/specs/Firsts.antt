@@ -1,6 +1,6 @@
 -- The first point of a list that is not outside (document 01, item 8, refusals 4 and 3 of a list of points).
 use mathlib.Core.Path.{_≡_}
-use mathlib.Core.Bool.{Bool, true, false, cond}
+use mathlib.Core.Bool.{true, false, cond}
 use mathlib.Core.Logic.{_⊎_}
 use mathlib.Core.List.{List, [], _∷_}
 use Prim.Native.Nat.{ℕ, suc, _/_, _<_}

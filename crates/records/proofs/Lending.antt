@@ -18,7 +18,7 @@ use base.Logic.{SProp, ent, sep, emp, ex, via, emp∗, comm∗}
 use base.Fml.{Lft, GName, Fml, fsep, fat, fdead, flent}
 use prog.Wp.{Heap}
 use ghost.Atoms.{Atoms, sem}
-use types.Kit.{Given, Item, Step, step, prop, ‵, _⊛_, some, later, _$_, _∵_, !, qed, by, move, drop, use1, use2, use3, split, pick, rewrite, fsplit, fjoin, fpick, fpack, feqL, feqI, frame, await, updating, now as at-once, done}
+use types.Kit.{Given, Item, Step, step, prop, ‵, later, _$_, _∵_, !, qed, by, move, drop, use1, use2, use3, rewrite, fsplit, fjoin, fpick, fpack, feqL, feqI, frame, await, updating, now as at-once, done}
 use types.SemTy.{cells, Arr}
 use types.Share.{arr-parts}
 use denote.RattleType.{RattleType}
@@ -29,7 +29,7 @@ use denote.Array.{each, arrayVal, Array, array-vals, array-tells}
 use denote.ArrayMemory.{array-apart, array-whole}
 use denote.Index.{row, whole-out, whole-in}
 use denote.Lend.{Held, Lent, LentShrs, lends-slice, slice-back, lends-shr-slice}
-use denote.Slice.{MutSlice, ShrSlice, Room, finally}
+use denote.Slice.{Room, finally}
 use denote.Steps.{only, peeks}
 use denote.Struct.Laws as LL
 use Rattle.nodes.specs.declared.Node.{Node}

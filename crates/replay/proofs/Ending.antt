@@ -9,7 +9,6 @@ use lib.Dec.{ltb}
 use lib.IntN.{ℤ}
 use lib.ListN.{length, take, drop, take-append-drop}
 use lib.Seq.{take-all}
-use Rattle.geom.specs.declared.Point.{Point}
 use Rattle.geom.specs.Range.{inRange, inDoubledRange}
 use Rattle.rules.specs.declared.Location.{Location}
 use Rattle.rules.specs.declared.Location.the-variants.{Outside}
@@ -18,7 +17,7 @@ use Rattle.rules.specs.declared.Refusal.the-variants.{Uneven, TooMany}
 use Rattle.rules.specs.declared.State.{State}
 use Rattle.rules.specs.declared.Verdict as Verdict
 use Rattle.rules.specs.declared.Verdict.{Verdict}
-use Rattle.rules.specs.Plans.{Plan, ringsOf, tooMany, uneven, planVerdict, planInRange}
+use Rattle.rules.specs.Plans.{Plan, tooMany, uneven, planVerdict, planInRange}
 use Rattle.rules.specs.Replies.{halfReply}
 use Rattle.rules.specs.Tables.{planOf}
 use Rattle.prepare.specs.declared.Preparing.{Preparing}
@@ -38,7 +37,7 @@ use Rattle.model.specs.declared.Call.{Call}
 use Rattle.model.specs.declared.Call.the-variants.{Move, Undo, Locate, LocateDoubled}
 use Rattle.model.specs.Coded.{callOf}
 use Rattle.model.specs.Numbers.{answerNumber}
-use Rattle.model.specs.Model.{Model, Line, standing, modelCall, answersFrom, modelFrom, opened, modelAnswers, modelAfter}
+use Rattle.model.specs.Model.{Model, standing, modelCall, answersFrom, modelFrom, opened, modelAnswers, modelAfter}
 use Rattle.model.specs.Prepared.{Prepared, planHeld, Sound}
 use Rattle.model.specs.Steps.{atDepth}
 use Rattle.model.specs.Demand.{Turn, callsOf, Run, endOf, Fresh, Leaves, AsFirst, lent, markedAnswer}

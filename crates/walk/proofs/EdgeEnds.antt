@@ -8,7 +8,7 @@ use lib.IntN.{ℤ}
 use lib.ListN.{length, getD}
 use Rattle.geom.specs.declared.Point.{Point}
 use Rattle.rules.specs.Plans.{cornerAt}
-use Rattle.boxes.specs.Rings.{startOf, nextIn, nextCorner, edgeOf, RingAt, RingEnds}
+use Rattle.boxes.specs.Rings.{startOf, nextIn, edgeOf, RingAt, RingEnds}
 use Rattle.boxes.proofs.Rings.{searchable, one-ring, next-of-ring, next-inside}
 use Rattle.walk.specs.Edges.{EdgeFound, EdgeRefused}
 

@@ -1,12 +1,10 @@
 -- `prepared::first::first_not_outside` meets its contract. The invariant: every point so far is outside.
-use mathlib.Core.Path.{_≡_, sym, ap, _∙_}
-use mathlib.Core.Bool.{true, false}
+use mathlib.Core.Path.{sym, _∙_}
 use Prim.Native.Nat.{_-_, _/_}
 use native.Mathlib.Omega.{arith}
 use lib.ListN.{length}
 use borrow.Author.Needs.{needs}
 use Rattle.integers.proofs.Tests.{not-true, not-false}
-use Rattle.rings.specs.Places.{isOutside}
 use Rattle.prepared.proofs.Listing.{accepted-few, Going, going-none, going-more, says-none, says-at, says-unsound, says-judged}
 use Rattle.prepared.proofs.first.first_not_outside.Statement.{statement}
 use Rattle.prepared.proofs.first.first_not_outside.Tie as tie

@@ -19,7 +19,7 @@ use contract.Lifetimes.{Lfts}
 use ghost.Atoms.{Atoms, sem}
 use contract.Monad.{Fun}
 use contract.Running.{givenOf, tables, tablesOf}
-use types.Kit.{Given, ‵, raw, _⊛_, some, later, ⋆, _$_, _∵_, !, qed, by, move, keep, drop, use1, use2, use3, split, join, pick, rewrite, fsplit, fjoin, feqL, suffices, frame, await, done}
+use types.Kit.{Given, ‵, raw, _⊛_, some, later, ⋆, _$_, _∵_, !, qed, by, move, drop, use1, use2, use3, split, join, pick, rewrite, fsplit, fjoin, feqL, suffices, frame, await, done}
 use types.Part.{agg}
 use types.Run.{look, init, forget, stop, from, load, lit, addr, of-opd, and-then, no-more, land, assigns, returns, enter, alloc1, alloc0, params1, pass1, pass0, free1, free0}
 use types.Share.{arr-parts}
@@ -70,7 +70,7 @@ use Rattle.nodes.proofs.refit_leaf.Met as refit-leaf-thm
 use Rattle.records.specs.declared.list.Ran.{Ran}
 use Rattle.records.proofs.list.Ran as Rn
 use Rattle.records.proofs.list.Ran.Laws as Rn′
-use Rattle.records.proofs.Lending.{R, arr, tells, field-val, same-val, is-field, Row, array-in, array-out, lends-mut, mut-back, lends-shr, shr-back, quiet}
+use Rattle.records.proofs.Lending.{R, arr, tells, same-val, is-field, Row, array-in, array-out, lends-mut, mut-back, lends-shr, shr-back, quiet}
 use Rattle.records.proofs.list.run.Key.{name as #records·run}
 use Rattle.records.proofs.list.run as f
 use Rattle.records.proofs.list.run.Statement as stated

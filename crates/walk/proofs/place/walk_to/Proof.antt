@@ -1,8 +1,7 @@
 -- `walk::place::walk_to` meets its contract.
 use borrow.Author.Needs.{needs}
-use mathlib.Core.Path.{_≡_, refl, _∙_}
+use mathlib.Core.Path.{refl, _∙_}
 use native.Mathlib.Omega.{arith}
-use lib.ListN.{length}
 use Rattle.walk.specs.declared.Query.the-variants.{Holding}
 use Rattle.walk.specs.Steps.{remaining, Yields}
 use Rattle.walk.proofs.Seeking.{Seeking, seeking-start, seeking-on, seeking-found, seeking-never, seeking-ended}
