@@ -14,7 +14,7 @@ use Rattle.fields.specs.Decimals.{numberOf}
 use Rattle.fields.specs.Pieces.{split}
 use Rattle.fields.proofs.Bytes.{same-equal}
 use Rattle.fields.proofs.Numbers.{no-number}
-use Rattle.fields.proofs.Written.{five-digits}
+use Rattle.fields.proofs.Written.{digits-below}
 use Rattle.rules.specs.declared.Kind.the-variants.{Polygons}
 use Rattle.rules.specs.declared.Location.{Location}
 use Rattle.rules.specs.declared.Location.the-variants.{Outside, Inside, OnBoundary}
@@ -103,7 +103,7 @@ word-short plan (OnGrid p) = place-short (planReply plan p)
 word-short plan (Doubled p) = place-short (planHalfReply plan p)
 
 pub refusal-short : (number line : ℕ) → number < 100000 → line < 100000 → length (refusalLine number line) ≤ 20
-refusal-short number line h k = let l = refusal-length number line in let a = five-digits number h in let b = five-digits line k in omega arith
+refusal-short number line h k = let l = refusal-length number line in let a = digits-below 4 number h in let b = digits-below 4 line k in omega arith
 
 -- ---- line by line
 

@@ -11,7 +11,7 @@ use Rattle.rules.specs.declared.Kind.{Kind}
 use Rattle.rules.specs.declared.Location.{Location}
 use Rattle.rules.specs.declared.Location.the-variants.{Outside, Inside, OnBoundary}
 use Rattle.rules.specs.declared.Refusal.{Refusal}
-use Rattle.rules.specs.declared.Refusal.the-variants.{TextTooLong, BadLine, Uneven, TooMany, NoSuchCorner, PlaceOutOfRange, TableTooShort, PlanOutOfRange, UndoFull, NothingToUndo, Unsound}
+use Rattle.rules.specs.declared.Refusal.the-variants.{TextTooLong, BadLine, Uneven, TooMany, NoSuchCorner, PlaceOutOfRange, TableTooShort, PlanOutOfRange, UndoFull, NothingToUndo, Unsound, OffGrammar, Unclosed}
 use Rattle.rules.specs.declared.State.{State}
 use Rattle.rules.specs.Plans.{Plan, planInRange, planReply, planHalfReply}
 use Rattle.rules.specs.Tables.{planOf}
@@ -60,6 +60,8 @@ lineNamed PlanOutOfRange = 0
 lineNamed UndoFull = 0
 lineNamed NothingToUndo = 0
 lineNamed Unsound = 0
+lineNamed (OffGrammar place) = 0
+lineNamed Unclosed = 0
 
 -- ---- line by line
 

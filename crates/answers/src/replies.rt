@@ -175,6 +175,8 @@ pub(crate) fn line_named(refusal: Refusal) -> usize
         Refusal::UndoFull => 0,
         Refusal::NothingToUndo => 0,
         Refusal::Unsound => 0,
+        Refusal::OffGrammar(_) => 0,
+        Refusal::Unclosed => 0,
     }
 }
 

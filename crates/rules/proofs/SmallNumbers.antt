@@ -9,15 +9,19 @@ use mir.Facts.{toZ-pos, toZ-ofZ}
 use Rattle.rules.specs.declared.Location.{Location}
 use Rattle.rules.specs.declared.Location.the-variants.{Outside, Inside, OnBoundary}
 use Rattle.rules.specs.declared.Refusal.{Refusal}
-use Rattle.rules.specs.declared.Refusal.the-variants.{TextTooLong, BadLine, Uneven, TooMany, NoSuchCorner, PlaceOutOfRange, TableTooShort, PlanOutOfRange, UndoFull, NothingToUndo, Unsound}
+use Rattle.rules.specs.declared.Refusal.the-variants.{TextTooLong, BadLine, Uneven, TooMany, NoSuchCorner, PlaceOutOfRange, TableTooShort, PlanOutOfRange, UndoFull, NothingToUndo, Unsound, OffGrammar, Unclosed}
 use Rattle.rules.specs.Numbers.{locationNumber, refusalNumber}
 
-pub location-small : (location : Location) → locationNumber location ≤ 15
+-- 25 is the greatest refusal number of document 02
+abbrev pub Small : ℕ → Type 0
+Small n = n ≤ 25
+
+pub location-small : (location : Location) → Small (locationNumber location)
 location-small Outside = omega arith
 location-small Inside = omega arith
 location-small OnBoundary = omega arith
 
-pub refusal-small : (refusal : Refusal) → refusalNumber refusal ≤ 15
+pub refusal-small : (refusal : Refusal) → Small (refusalNumber refusal)
 refusal-small TextTooLong = omega arith
 refusal-small (BadLine line) = omega arith
 refusal-small Uneven = omega arith
@@ -29,22 +33,24 @@ refusal-small PlanOutOfRange = omega arith
 refusal-small UndoFull = omega arith
 refusal-small NothingToUndo = omega arith
 refusal-small Unsound = omega arith
+refusal-small (OffGrammar place) = omega arith
+refusal-small Unclosed = omega arith
 
-pub small-fits : (n : ℕ) → n ≤ 15 → SFits w64 (pos n)
+pub small-fits : (n : ℕ) → Small n → SFits w64 (pos n)
 small-fits n h = record { sfits = omega arith }
 
-pub small-is : (n : ℕ) → n ≤ 15 → toZ w64 n ≡ pos n
+pub small-is : (n : ℕ) → Small n → toZ w64 n ≡ pos n
 small-is n h = toZ-pos w64 (omega arith)
 
 below-zero : (n : ℕ) → pos 0 -ℤ pos n ≡ negℤ (pos n)
 below-zero n = +ℤ-idl (negℤ (pos n))
 
-pub minus-fits : (n : ℕ) → n ≤ 15 → SFits w64 (pos 0 -ℤ toZ w64 n)
+pub minus-fits : (n : ℕ) → Small n → SFits w64 (pos 0 -ℤ toZ w64 n)
 minus-fits n h = rw (small-is n h, below-zero n) (go n h)
   where
-    go : (n : ℕ) → n ≤ 15 → SFits w64 (negℤ (pos n))
+    go : (n : ℕ) → Small n → SFits w64 (negℤ (pos n))
     go zero k = record { sfits = omega arith }
     go (suc n) k = record { sfits = omega arith }
 
-pub minus-is : (n : ℕ) → n ≤ 15 → toZ w64 (ofZ w64 (pos 0 -ℤ toZ w64 n)) ≡ negℤ (pos n)
+pub minus-is : (n : ℕ) → Small n → toZ w64 (ofZ w64 (pos 0 -ℤ toZ w64 n)) ≡ negℤ (pos n)
 minus-is n h = toZ-ofZ (minus-fits n h) ∙ ap (λ z. pos 0 -ℤ z) (small-is n h) ∙ below-zero n

@@ -17,9 +17,11 @@ pub enum Table {
     Polygons,
     Nodes,
     Edges,
+    /// The output into which Well-Known Text is written (document 02, R-1).
+    Output,
 }
 
-/// Why a call is refused. `location_number`, `refusal_number` and `refusal_detail` give document 01's numbers.
+/// Why a call is refused. `refusal_number` and `refusal_detail` give the numbers of document 01 and of document 02's requests.
 pub enum Refusal {
     /// 1: the text is too long.
     TextTooLong,
@@ -43,6 +45,11 @@ pub enum Refusal {
     NothingToUndo,
     /// 15: the tables are not sound.
     Unsound,
+    /// 21: a text off the grammar of Well-Known Text, and the place, from 0, of the byte at which it leaves it (document 02, R-1).
+    OffGrammar(usize),
+    /// 22: a ring whose ends differ or of fewer than two positions in Well-Known Text; in a plan to be written as such, a tree or an
+    /// empty ring, which it has no closed rings for (document 02, R-1).
+    Unclosed,
 }
 
 /// A reply carries one of the three places or a refusal.
@@ -104,7 +111,7 @@ pub fn location_number(location: Location) -> usize
     }
 }
 
-/// 1 corners, 2 rings, 3 polygons, 4 nodes, 5 edges.
+/// 1 corners, 2 rings, 3 polygons, 4 nodes, 5 edges, 6 the output of Well-Known Text.
 pub fn table_number(table: Table) -> usize
     ensures { λ r. ⌜ r ≡ tableNumber table ⌝ }
 {
@@ -114,10 +121,11 @@ pub fn table_number(table: Table) -> usize
         Table::Polygons => 3,
         Table::Nodes => 4,
         Table::Edges => 5,
+        Table::Output => 6,
     }
 }
 
-/// Document 01's number of a refusal.
+/// The number of a refusal, in document 01 or document 02.
 pub fn refusal_number(refusal: Refusal) -> usize
     ensures { λ r. ⌜ r ≡ refusalNumber refusal ⌝ }
 {
@@ -133,10 +141,12 @@ pub fn refusal_number(refusal: Refusal) -> usize
         Refusal::UndoFull => 13,
         Refusal::NothingToUndo => 14,
         Refusal::Unsound => 15,
+        Refusal::OffGrammar(_) => 21,
+        Refusal::Unclosed => 22,
     }
 }
 
-/// The line that refusal 2 names, the table that refusal 11 names, and 0 with any other.
+/// The line that refusal 2 names, the table that refusal 11 names, the place that refusal 21 names, and 0 with any other.
 pub fn refusal_detail(refusal: Refusal) -> usize
     ensures { λ r. ⌜ r ≡ refusalDetail refusal ⌝ }
 {
@@ -152,6 +162,8 @@ pub fn refusal_detail(refusal: Refusal) -> usize
         Refusal::UndoFull => 0,
         Refusal::NothingToUndo => 0,
         Refusal::Unsound => 0,
+        Refusal::OffGrammar(place) => place,
+        Refusal::Unclosed => 0,
     }
 }
 
