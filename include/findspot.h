@@ -43,16 +43,19 @@ enum {
     FINDSPOT_REFUSED_PLAN_OUT_OF_RANGE = 12,
     FINDSPOT_REFUSED_UNDO_FULL = 13,
     FINDSPOT_REFUSED_NOTHING_TO_UNDO = 14,
-    FINDSPOT_REFUSED_UNSOUND = 15
+    FINDSPOT_REFUSED_UNSOUND = 15,
+    FINDSPOT_REFUSED_OFF_GRAMMAR = 21,
+    FINDSPOT_REFUSED_UNCLOSED = 22
 };
 
-/* The table that refusal 11 names. Nodes are the rows of boxes and of parts. */
+/* The table that refusal 11 names. Nodes are the rows of boxes and of parts, and the output is where Well-Known Text is written. */
 enum {
     FINDSPOT_TABLE_CORNERS = 1,
     FINDSPOT_TABLE_RINGS = 2,
     FINDSPOT_TABLE_POLYGONS = 3,
     FINDSPOT_TABLE_NODES = 4,
-    FINDSPOT_TABLE_EDGES = 5
+    FINDSPOT_TABLE_EDGES = 5,
+    FINDSPOT_TABLE_OUTPUT = 6
 };
 
 /* The kind of a plan. */
@@ -111,6 +114,67 @@ FINDSPOT_STATIC_ASSERT(sizeof(findspot_span) == 2 * 8, "two numbers");
  * Any bytes will do, of any length (see "What is lent").
  */
 findspot_span findspot_line(const uint8_t *text, size_t length, size_t k);
+
+/*
+ * Well-Known Text, the POLYGON and MULTIPOLYGON of OGC Simple Features with whole coordinates. It always holds a list (FINDSPOT_LIST).
+ *
+ *     POLYGON ((0 0, 10 0, 10 10, 0 10, 0 0), (4 4, 6 4, 6 6, 4 4))                   an outer ring and a hole
+ *     MULTIPOLYGON(((0 0,10 0,10 10,0 0)),EMPTY,((30 0,34 0,30 4,30 0)))              two polygons: an EMPTY member adds none
+ *     POLYGON EMPTY                                                                   no polygon, as MULTIPOLYGON EMPTY
+ *
+ * Words are capitals. Brackets hold one thing or more, parted by commas: a ring positions, a polygon rings, the outer one first, a MULTIPOLYGON
+ * polygons and EMPTY members. A ring is never EMPTY. A position is x and y, decimal numbers of 64 bits with no leading zero, plus sign or -0.
+ * Spaces, byte 32 alone, are free round brackets and commas; one or more part the numbers of a position, and the first word from EMPTY. Nothing
+ * else is taken: no space before the first word or behind a last EMPTY, no tab, no line end, no Z or M, no lower case, no fraction or exponent.
+ *
+ * Each ring ends with its first position again. The tables do not have that last one: reading drops it and writing adds it.
+ */
+
+/*
+ * What reading Well-Known Text answers: the refusal number or 0; its detail, which is the place that refusal 21 names, counted from 0, or the table
+ * that refusal 11 names, else 0; how many corners, rings and polygons the plan has, all 0 where the text is refused.
+ */
+typedef struct {
+    size_t refusal, detail, corners, rings, polygons;
+} findspot_wkt_reading;
+
+FINDSPOT_STATIC_ASSERT(sizeof(findspot_wkt_reading) == 5 * 8, "five numbers");
+
+/*
+ * Reads the plan of a Well-Known Text into tables, as `findspot_read_plan` does with its own format: the corners' x, y, x, y, .., the length of
+ * each ring and the number of rings of each polygon. The counts are of numbers, two a corner. Behind the plan the tables stay as they were.
+ *
+ * Refused, in this order: 1 (more than 65,536 bytes), 21 with its place (the text is off the grammar), 22 (a ring whose ends differ, or of one
+ * position), 11 with its table: corners, rings (`lengths`) or polygons (`counts`). The text is judged whole, for 21 and then for 22, before a
+ * table is looked at. 21's place: the bytes before it begin some text of the grammar, of whatever length, and with the byte there they begin
+ * none. Where the text only ends early the place is its length.
+ *
+ * A text of n bytes has at most n / 4 corners, n / 10 rings and n / 12 polygons; the largest has 16,380, 6,552 or 5,460 of them.
+ */
+findspot_wkt_reading findspot_read_wkt(const uint8_t *text, size_t length, int64_t *corners, size_t corner_count, size_t *lengths,
+                                       size_t length_count, size_t *counts, size_t count_count);
+
+/* The refusal number or 0; the table that refusal 11 names or 0; how many bytes are written, 0 where the plan is refused. */
+typedef struct {
+    size_t refusal, table, length;
+} findspot_wkt_writing;
+
+FINDSPOT_STATIC_ASSERT(sizeof(findspot_wkt_writing) == 3 * 8, "three numbers");
+
+/*
+ * Writes a list plan as Well-Known Text: coordinates, lengths and counts as `findspot_prepare` takes them, in range or not. So a corrected plan of
+ * n corners goes back: the first 2n numbers of its table of corners, with the lengths and counts from which it was prepared. (The tables `rings`
+ * and `polygons` of a prepared plan do not serve: they hold sums.)
+ *
+ * The text is a MULTIPOLYGON, of one polygon too, with one space behind that word, behind each comma and between x and y and no other; a plan of
+ * no polygons gives MULTIPOLYGON EMPTY. No byte 0 ends it, and behind it the output stays as it was. Read again, it gives the same plan.
+ *
+ * Refused, in this order: 4, 3, 22 (a tree, or a ring of no corners), 1 (the text would have more than 65,536 bytes), 11 with table 6 (it is
+ * longer than the output). An output of 65,536 bytes always suffices. Another kind gets 4 and 3 as a tree does, and then 15.
+ */
+findspot_wkt_writing findspot_write_wkt(size_t kind, const int64_t *coordinates, size_t coordinate_count, const size_t *lengths,
+                                        size_t length_count, const size_t *counts, size_t count_count, uint8_t *output,
+                                        size_t output_count);
 
 /*
  * Prepared plans. The caller lends every table (see "What is lent") and keeps the state.

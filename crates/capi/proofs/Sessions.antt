@@ -14,7 +14,7 @@ use Rattle.rules.specs.declared.Kind.{Kind}
 use Rattle.rules.specs.declared.Location.{Location}
 use Rattle.rules.specs.declared.Location.the-variants.{Outside}
 use Rattle.rules.specs.declared.Refusal.{Refusal}
-use Rattle.rules.specs.declared.Refusal.the-variants.{TextTooLong, BadLine, Uneven, TooMany, NoSuchCorner, PlaceOutOfRange, TableTooShort, PlanOutOfRange, UndoFull, NothingToUndo, Unsound}
+use Rattle.rules.specs.declared.Refusal.the-variants.{TextTooLong, BadLine, Uneven, TooMany, NoSuchCorner, PlaceOutOfRange, TableTooShort, PlanOutOfRange, UndoFull, NothingToUndo, Unsound, OffGrammar, Unclosed}
 use Rattle.rules.specs.declared.Reply.{Reply}
 use Rattle.rules.specs.declared.Reply as Reply
 use Rattle.rules.specs.declared.State.{State}
@@ -215,6 +215,8 @@ positive PlanOutOfRange e = omega arith
 positive UndoFull e = omega arith
 positive NothingToUndo e = omega arith
 positive Unsound e = omega arith
+positive (OffGrammar place) e = omega arith
+positive Unclosed e = omega arith
 
 module _ (coordinates : List ℤ) (lengths counts : List ℕ) (before first : Tables) where
   abbrev planOfKind : Kind → Plan

@@ -6,6 +6,7 @@
 
 #![allow(unsafe_code)]
 
+use crate::plan::Kind;
 use crate::point::Point;
 
 /// The numbers that go with the tables of a prepared plan.
@@ -46,7 +47,8 @@ pub(crate) struct Correction {
     pub state: State,
 }
 
-/// What reading a text answers: the refusal number or 0, the line that refusal 2 or the table that refusal 11 names, and the plan's kind and size.
+/// What reading a text answers: the refusal number or 0, the line that refusal 2, the table that refusal 11 or the place that refusal 21 names, and
+/// the plan's kind and size.
 #[repr(C)]
 pub(crate) struct Reading {
     pub refusal: usize,
@@ -56,6 +58,24 @@ pub(crate) struct Reading {
     pub corners: usize,
     pub rings: usize,
     pub polygons: usize,
+}
+
+/// What reading Well-Known Text answers: a [`Reading`] without the kind, which is always a list.
+#[repr(C)]
+struct WktReading {
+    refusal: usize,
+    detail: usize,
+    corners: usize,
+    rings: usize,
+    polygons: usize,
+}
+
+/// What writing Well-Known Text answers: the refusal number or 0, the table that refusal 11 names or 0, and the number of bytes written.
+#[repr(C)]
+pub(crate) struct WktWriting {
+    pub refusal: usize,
+    pub table: usize,
+    pub length: usize,
 }
 
 /// A part of a text, in bytes.
@@ -74,6 +94,8 @@ const _: () = {
     assert!(size_of::<First>() == 3 * 8);
     assert!(size_of::<Correction>() == 7 * 8);
     assert!(size_of::<Reading>() == 6 * 8);
+    assert!(size_of::<WktReading>() == 5 * 8);
+    assert!(size_of::<WktWriting>() == 3 * 8);
     assert!(size_of::<Span>() == 2 * 8);
 };
 
@@ -135,6 +157,29 @@ unsafe extern "C" {
         counts: *mut usize,
         counts_length: usize,
     ) -> Reading;
+
+    fn findspot_read_wkt(
+        text: *const u8,
+        text_length: usize,
+        corners: *mut i64,
+        corners_length: usize,
+        lengths: *mut usize,
+        lengths_length: usize,
+        counts: *mut usize,
+        counts_length: usize,
+    ) -> WktReading;
+
+    fn findspot_write_wkt(
+        kind: usize,
+        coordinates: *const i64,
+        coordinates_length: usize,
+        lengths: *const usize,
+        lengths_length: usize,
+        counts: *const usize,
+        counts_length: usize,
+        output: *mut u8,
+        output_length: usize,
+    ) -> WktWriting;
 
     fn findspot_line(text: *const u8, length: usize, k: usize) -> Span;
 
@@ -321,6 +366,64 @@ pub(crate) fn read_plan(
             lengths_length,
             counts,
             counts_length,
+        )
+    }
+}
+
+/// The same of a Well-Known Text.
+pub(crate) fn read_wkt(
+    text: &[u8],
+    corners: &mut [Point],
+    lengths: &mut [usize],
+    counts: &mut [usize],
+) -> Reading {
+    let (corners, corners_length) = lent_points(corners);
+    let (lengths, lengths_length) = lent(lengths);
+    let (counts, counts_length) = lent(counts);
+    // SAFETY: as `read_plan`.
+    let reading = unsafe {
+        findspot_read_wkt(
+            text.as_ptr(),
+            text.len(),
+            corners,
+            corners_length,
+            lengths,
+            lengths_length,
+            counts,
+            counts_length,
+        )
+    };
+    Reading {
+        refusal: reading.refusal,
+        detail: reading.detail,
+        kind: Kind::List.number(),
+        corners: reading.corners,
+        rings: reading.rings,
+        polygons: reading.polygons,
+    }
+}
+
+/// Writes a plan into the output as Well-Known Text. Refused, it leaves the output as it was.
+pub(crate) fn write_wkt(
+    kind: usize,
+    corners: &[Point],
+    lengths: &[usize],
+    counts: &[usize],
+    output: &mut [u8],
+) -> WktWriting {
+    let (output, output_length) = lent(output);
+    // SAFETY: each pointer and length are those of one list, which outlives the call. The output, which is written, is borrowed for it alone.
+    unsafe {
+        findspot_write_wkt(
+            kind,
+            corners.as_ptr().cast(),
+            coordinates_of(corners),
+            lengths.as_ptr(),
+            lengths.len(),
+            counts.as_ptr(),
+            counts.len(),
+            output,
+            output_length,
         )
     }
 }

@@ -1,7 +1,7 @@
 //! Why a call is refused, by number.
 
-use crate::text;
 use crate::{MAX_COORD, MAX_CORNERS, MAX_POINTS, MAX_POLYGONS, MAX_RINGS, MAX_TEXT, MAX_UNDO};
+use crate::{text, wkt};
 use std::error::Error;
 use std::fmt;
 
@@ -9,11 +9,16 @@ use std::fmt;
 const MEND_LINE: &str = "mend it: `plan` comes first, alone or with `list` or `tree`, then `outer`, `hole` or `node` for a ring and `at` \
     with x and y for a corner, with single tabs between fields and a line feed after each line";
 
+/// What to do about refusal 21.
+const MEND_WKT: &str = "mend it there: `POLYGON` or `MULTIPOLYGON` comes first, then `EMPTY` or rings in brackets such as \
+    `((0 0, 8 0, 0 8, 0 0))`, with words in capitals, whole numbers of 64 bits in their shortest form, spaces as the only other bytes and \
+    no line end";
+
 /// Why a call is refused. A refused call has changed nothing.
 #[derive(Clone, Copy, Debug, PartialEq, Eq, Hash)]
 #[non_exhaustive]
 pub enum Refusal {
-    /// 1: the text has more than [`MAX_TEXT`] bytes.
+    /// 1: the text has more than [`MAX_TEXT`] bytes, or would have so many, written.
     TextTooLong,
     /// 2: the first line, counted from 1, that breaks the text's format. An empty text breaks it in line 1.
     BadLine(usize),
@@ -35,9 +40,15 @@ pub enum Refusal {
     NothingToUndo,
     /// 15: the tables are not such as preparing and corrections leave. Those of this crate are.
     Unsound,
+    /// 21: the place, counted from 0, at which a text leaves the grammar of Well-Known Text: the bytes before it begin a text of the grammar, and
+    /// with the byte there they begin none. It is the text's length where the text only ends early.
+    OffGrammar(usize),
+    /// 22: a ring of a Well-Known Text whose ends differ or that has one position; or a plan to be written as such that is a tree or has an empty
+    /// ring, for which there are no closed rings.
+    Unclosed,
 }
 
-/// The tables that the library is lent, in the order in which refusal 11 looks at them.
+/// The tables that the library is lent, in the order in which refusal 11 looks at them. The output goes alone.
 #[derive(Clone, Copy, Debug, PartialEq, Eq, Hash)]
 #[non_exhaustive]
 pub enum Table {
@@ -51,10 +62,12 @@ pub enum Table {
     Nodes,
     /// The edge list.
     Edges,
+    /// The bytes into which Well-Known Text is written.
+    Output,
 }
 
 impl Refusal {
-    /// The refusal's number: 1 to 6 come from what was handed over, 11 to 15 from the state of the plan.
+    /// The refusal's number: 1 to 6 come from what was handed over, 11 to 15 from the state of the plan, 21 and 22 from Well-Known Text.
     pub const fn number(self) -> u8 {
         match self {
             Refusal::TextTooLong => 1,
@@ -68,10 +81,13 @@ impl Refusal {
             Refusal::UndoFull => 13,
             Refusal::NothingToUndo => 14,
             Refusal::Unsound => 15,
+            Refusal::OffGrammar(_) => 21,
+            Refusal::Unclosed => 22,
         }
     }
 
-    /// The message, with what is wrong in the line of the refused text that refusal 2 names. Any other refusal says what it always does.
+    /// The message, with what is wrong in the line of the refused text that refusal 2 names, or at the place that refusal 21 names. Any other
+    /// refusal says what it always does.
     ///
     /// ```
     /// # use findspot::Plan;
@@ -80,19 +96,24 @@ impl Refusal {
     /// assert!(refusal.explain(text).starts_with(
     ///     "refusal 2: line 3 breaks the format: it has a space where a tab is due; mend it: "
     /// ));
+    /// let text = b"POLYGON ((0 0, 8.5 0, 0 8, 0 0))";
+    /// let refusal = Plan::from_wkt(text).unwrap_err();
+    /// assert!(refusal.explain(text).starts_with(
+    ///     "refusal 21: byte 16, counted from 0, is off the grammar of Well-Known Text: `.` stands there, where a space or a digit \
+    ///      from 0 to 9 is due; mend it there: "
+    /// ));
     /// ```
     pub fn explain(self, text: &[u8]) -> String {
-        match self {
-            Refusal::BadLine(line) => format!(
-                "refusal {}: line {line} breaks the format: {}; {MEND_LINE}",
-                self.number(),
-                text::fault(text, line)
-            ),
-            _ => self.to_string(),
-        }
+        let fault = match self {
+            Refusal::BadLine(line) => text::fault(text, line).to_string(),
+            Refusal::OffGrammar(place) => wkt::fault(text, place),
+            _ => return self.to_string(),
+        };
+        // A message is what is wrong, a semicolon and what to do.
+        self.to_string().replacen("; ", &format!(": {fault}; "), 1)
     }
 
-    /// The refusal of a number that the library answers, with the line that 2 names or the table that 11 names.
+    /// The refusal of a number that the library answers, with the line that 2 names, the table that 11 names or the place that 21 names.
     pub(crate) fn of_number(number: usize, detail: usize) -> Refusal {
         match number {
             1 => Refusal::TextTooLong,
@@ -106,6 +127,8 @@ impl Refusal {
             13 => Refusal::UndoFull,
             14 => Refusal::NothingToUndo,
             15 => Refusal::Unsound,
+            21 => Refusal::OffGrammar(detail),
+            22 => Refusal::Unclosed,
             other => {
                 panic!("the library linked is not that of this crate: it refused with {other}")
             }
@@ -121,6 +144,7 @@ impl Table {
             3 => Table::Polygons,
             4 => Table::Nodes,
             5 => Table::Edges,
+            6 => Table::Output,
             other => panic!("the library linked is not that of this crate: it names table {other}"),
         }
     }
@@ -132,6 +156,7 @@ impl Table {
             Table::Polygons => "polygons",
             Table::Nodes => "nodes",
             Table::Edges => "edges",
+            Table::Output => "output bytes",
         }
     }
 }
@@ -143,7 +168,7 @@ impl fmt::Display for Refusal {
         match self {
             Refusal::TextTooLong => write!(
                 formatter,
-                "the text has more than {MAX_TEXT} bytes; hand a larger plan over as rings"
+                "the text has, or written would have, more than {MAX_TEXT} bytes; hand a larger plan over as rings, or split it"
             ),
             Refusal::BadLine(line) => {
                 write!(formatter, "line {line} breaks the format; {MEND_LINE}")
@@ -184,6 +209,14 @@ impl fmt::Display for Refusal {
             Refusal::Unsound => formatter.write_str(
                 "the tables are not such as preparing and corrections leave; prepare the plan again",
             ),
+            Refusal::OffGrammar(place) => write!(
+                formatter,
+                "byte {place}, counted from 0, is off the grammar of Well-Known Text; {MEND_WKT}"
+            ),
+            Refusal::Unclosed => formatter.write_str(
+                "a ring of the text ends elsewhere than it begins or has one position, or the plan to be written is a tree or has an \
+                 empty ring; end each ring with its first position, or write a list whose rings all have corners",
+            ),
         }
     }
 }
@@ -195,13 +228,14 @@ mod tests {
     use super::{Refusal, Table};
     use std::panic::catch_unwind;
 
-    /// Document 01's order of the tables, in which refusal 11 names the first that is too short.
-    const TABLES: [Table; 5] = [
+    /// Document 01's order of the tables, in which refusal 11 names the first that is too short, and the output, which is the sixth.
+    const TABLES: [Table; 6] = [
         Table::Corners,
         Table::Rings,
         Table::Polygons,
         Table::Nodes,
         Table::Edges,
+        Table::Output,
     ];
 
     #[test]
@@ -215,7 +249,7 @@ mod tests {
 
     #[test]
     fn no_other_number_is_taken_for_a_table() {
-        for number in [0, 6, usize::MAX] {
+        for number in [0, 7, usize::MAX] {
             let answer = catch_unwind(|| Table::of_number(number));
             let said = answer.expect_err("there is no such table");
             let said = said.downcast::<String>().expect("a message");

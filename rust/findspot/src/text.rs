@@ -1,16 +1,28 @@
 //! Plans as text: the library reads them.
 
-use crate::library;
+use crate::library::{self, Reading};
 use crate::location::Location;
 use crate::plan::{Kind, Plan};
 use crate::point::Point;
 use crate::refusal::Refusal;
 use crate::{MAX_TEXT, prepared};
 
-// The bytes of the shortest lines that add a corner, open a ring and open a polygon.
-const CORNER_LINE: usize = b"at\t0\t0\n".len();
-const RING_LINE: usize = b"hole\n".len();
-const POLYGON_LINE: usize = b"outer\n".len();
+/// A call of the library that reads the plan of a text into tables.
+type Reader = fn(&[u8], &mut [Point], &mut [usize], &mut [usize]) -> Reading;
+
+/// The fewest bytes that each corner, ring and polygon takes in a text.
+pub(crate) struct Fewest {
+    pub corner: usize,
+    pub ring: usize,
+    pub polygon: usize,
+}
+
+/// The shortest lines that add a corner, open a ring and open a polygon.
+const FEWEST: Fewest = Fewest {
+    corner: b"at\t0\t0\n".len(),
+    ring: b"hole\n".len(),
+    polygon: b"outer\n".len(),
+};
 
 /// Where a point lies in the plan that a text holds (see [`Plan::from_text`]), ring by ring, in one call that prepares nothing.
 ///
@@ -56,13 +68,19 @@ fn refusal_of(text: &[u8]) -> Refusal {
     Refusal::of_number(reading.refusal, reading.detail)
 }
 
-/// The plan that a text holds, read into tables that have room for what so many bytes can hold.
+/// The plan that a text holds.
 pub(crate) fn read(text: &[u8]) -> Result<Plan, Refusal> {
+    read_with(library::read_plan, &FEWEST, text)
+}
+
+/// The plan that a text holds, read into tables that have room for what so many bytes can hold. A text above the ceiling is refused before they
+/// are looked at, however long it is.
+pub(crate) fn read_with(reader: Reader, fewest: &Fewest, text: &[u8]) -> Result<Plan, Refusal> {
     let bytes = text.len().min(MAX_TEXT);
-    let mut corners = vec![Point::default(); bytes / CORNER_LINE];
-    let mut lengths = vec![0; bytes / RING_LINE];
-    let mut counts = vec![0; bytes / POLYGON_LINE];
-    let reading = library::read_plan(text, &mut corners, &mut lengths, &mut counts);
+    let mut corners = vec![Point::default(); bytes / fewest.corner];
+    let mut lengths = vec![0; bytes / fewest.ring];
+    let mut counts = vec![0; bytes / fewest.polygon];
+    let reading = reader(text, &mut corners, &mut lengths, &mut counts);
     if reading.refusal != 0 {
         return Err(Refusal::of_number(reading.refusal, reading.detail));
     }

@@ -1,6 +1,6 @@
-//! The constants of `include/findspot.h` against document 01's numbers and, for tables and kinds, which have an order or a name alone there, this
-//! repository's, written down a second time. The compilers hold the header's declarations together; of a number they cannot know that it is
-//! the right one.
+//! The constants of `include/findspot.h` against the numbers of documents 01 and 02 and, for tables and kinds, which have an order or a name
+//! alone there, this repository's, written down a second time. The compilers hold the header's declarations together; of a number they cannot
+//! know that it is the right one.
 
 use std::collections::BTreeMap;
 
@@ -16,8 +16,8 @@ const PLACES: [(&str, i64); 6] = [
     ("FINDSPOT_UNSOUND", -15),
 ];
 
-/// The refusals, from the input and from the state; 0 is none.
-const REFUSALS: [(&str, i64); 12] = [
+/// The refusals, from the input, from the state and from Well-Known Text; 0 is none.
+const REFUSALS: [(&str, i64); 14] = [
     ("FINDSPOT_ACCEPTED", 0),
     ("FINDSPOT_REFUSED_TEXT_TOO_LONG", 1),
     ("FINDSPOT_REFUSED_BAD_LINE", 2),
@@ -30,15 +30,18 @@ const REFUSALS: [(&str, i64); 12] = [
     ("FINDSPOT_REFUSED_UNDO_FULL", 13),
     ("FINDSPOT_REFUSED_NOTHING_TO_UNDO", 14),
     ("FINDSPOT_REFUSED_UNSOUND", 15),
+    ("FINDSPOT_REFUSED_OFF_GRAMMAR", 21),
+    ("FINDSPOT_REFUSED_UNCLOSED", 22),
 ];
 
-/// The tables in the order in which refusal 11 looks at them.
-const TABLES: [(&str, i64); 5] = [
+/// The tables in the order in which refusal 11 looks at them, and the output as the sixth.
+const TABLES: [(&str, i64); 6] = [
     ("FINDSPOT_TABLE_CORNERS", 1),
     ("FINDSPOT_TABLE_RINGS", 2),
     ("FINDSPOT_TABLE_POLYGONS", 3),
     ("FINDSPOT_TABLE_NODES", 4),
     ("FINDSPOT_TABLE_EDGES", 5),
+    ("FINDSPOT_TABLE_OUTPUT", 6),
 ];
 
 const KINDS: [(&str, i64); 2] = [("FINDSPOT_LIST", 0), ("FINDSPOT_TREE", 1)];

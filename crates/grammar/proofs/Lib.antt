@@ -1,0 +1,8 @@
+pub mod Digits
+pub mod Completions
+pub mod Runs
+pub mod Means
+pub mod Texts
+pub mod Tables
+pub mod Again
+mod Worked
