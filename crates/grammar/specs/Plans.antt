@@ -6,6 +6,8 @@ use lib.IntN.{ℤ}
 use lib.Signed.{leZ}
 use lib.ListN.{length}
 use Rattle.geom.specs.declared.Point.{Point}
+use Rattle.rules.specs.declared.Kind.the-variants.{Polygons}
+use Rattle.rules.specs.Plans.{Plan}
 use Rattle.grammar.specs.Grammar.{Ring, Polygon}
 use Rattle.grammar.specs.Texts.{dropLast}
 
@@ -56,3 +58,7 @@ lengths (rings ∷ polygons) = ringLengths rings ++ lengths polygons
 unfoldable pub counts : List Polygon → List ℕ
 counts [] = []
 counts (rings ∷ polygons) = length rings ∷ counts polygons
+
+-- the plan that they are: a list
+abbrev pub planSpelt : List Polygon → Plan
+planSpelt polygons = record { kind = Polygons; coordinates = coordinates polygons; lengths = lengths polygons; counts = counts polygons }

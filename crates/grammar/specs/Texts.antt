@@ -1,8 +1,9 @@
 -- Polygons as text (document 02, R-1): "one space after its first word, after each comma and between numbers, and no other".
-use mathlib.Core.List.{List, [], _∷_, _++_}
+use mathlib.Core.List.{List, [], _∷_, _++_, map}
 use Prim.Native.Nat.{ℕ}
 use Rattle.fields.specs.Decimals.{decimal}
 use Rattle.geom.specs.declared.Point.{Point}
+use Rattle.rules.specs.Plans.{Plan, polygonsOf}
 use Rattle.grammar.specs.Words.{multipolygon, empty}
 use Rattle.grammar.specs.Grammar.{Ring, Polygon}
 
@@ -25,6 +26,7 @@ ringText ring = inBrackets pairText ring
 abbrev pub polygonText : Polygon → List ℕ
 polygonText rings = inBrackets ringText rings
 
+-- a list of polygons, "and a plan of no polygons gives `MULTIPOLYGON EMPTY`"
 unfoldable pub wktText : List Polygon → List ℕ
 wktText [] = multipolygon ++ (32 ∷ empty)
 wktText (rings ∷ polygons) = multipolygon ++ (32 ∷ inBrackets polygonText (rings ∷ polygons))
@@ -39,3 +41,7 @@ unfoldable pub dropLast : Ring → Ring
 dropLast [] = []
 dropLast (p ∷ []) = []
 dropLast (p ∷ q ∷ ring) = p ∷ dropLast (q ∷ ring)
+
+-- the text of a list plan: "the repeated last corner of each ring is .. added on writing"
+unfoldable pub wktOf : Plan → List ℕ
+wktOf plan = wktText (map (map closed) (polygonsOf plan))
