@@ -56,6 +56,8 @@ static const char *refusal_name(size_t refusal) {
     case FINDSPOT_REFUSED_UNDO_FULL: return "the undo table is full";
     case FINDSPOT_REFUSED_NOTHING_TO_UNDO: return "there is nothing to undo";
     case FINDSPOT_REFUSED_UNSOUND: return "the tables do not belong together";
+    case FINDSPOT_REFUSED_OFF_GRAMMAR: return "the text is off the grammar";
+    case FINDSPOT_REFUSED_UNCLOSED: return "a ring is not closed";
     default: return "no number of this library";
     }
 }

@@ -1,3 +1,4 @@
+pub mod Steps
 pub mod Digits
 pub mod Completions
 pub mod Runs
@@ -5,4 +6,5 @@ pub mod Means
 pub mod Texts
 pub mod Tables
 pub mod Again
+pub mod Tokens
 mod Worked

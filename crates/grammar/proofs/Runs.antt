@@ -12,16 +12,15 @@ use Rattle.fields.proofs.Decimals.{digits-one, digits-more}
 use Rattle.grammar.specs.Words.{polygon, multipolygon, empty}
 use Rattle.grammar.specs.Grammar.{Ring, Polygon, Spaces, none, more, Mark, round, Pair, pair, Rest, close, next, Bracketed, bracketed, RingText, PolygonText, Member, full, bare, kept, Text, one, one-empty, many, many-empty, Begins}
 use Rattle.geom.specs.declared.Point.{Point}
-use Rattle.grammar.specs.Modes.{Place}
 use Rattle.grammar.specs.Numbers.{Whole}
 use Rattle.grammar.specs.Numbers.{Begun}
 use Rattle.grammar.specs.Numbers.{Minus, Value, Off}
 use Rattle.grammar.specs.Modes.{Mode}
 use Rattle.grammar.specs.Modes.{Start, Word, Spaced, EmptyText, WantMember, EmptyMember, AfterMember, WantRing, WantX, InX, WantY, InY, AfterY, AfterRing, Finished, Broken}
 use Rattle.grammar.specs.Modes.{Nothing, Corner, RingEnds}
-use Rattle.grammar.specs.Numbers.{isDigit, valueOf, plain, under, fitting, firstByte, nextDigit}
+use Rattle.grammar.specs.Numbers.{isDigit, valueOf, wholeOf, plain, under, fitting, firstByte, nextDigit}
 use Rattle.grammar.specs.Modes.{begunX, begunY, endX, endY, yEvent, nextMode, eventOf}
-use Rattle.grammar.specs.Scans.{So-far, nothing, pointOf, built, mayEnd, isBroken}
+use Rattle.grammar.specs.Scans.{So-far, nothing, pointOf, built, mayEnd, isBroken, placeOf}
 use Rattle.grammar.proofs.Digits.{digit-range}
 use Rattle.grammar.proofs.Completions.{modeAfter}
 
@@ -65,17 +64,9 @@ less d = omega arith
 first-digit : (d : ℕ) → d < 10 → firstByte (48 + d) ≡ Value (plain d)
 first-digit d h = rw (ne-eqb (48 + d) 45 (λ e. omega arith), digit-is d h, less d) refl
 
--- a number as a pair
-abbrev pub wholeOf : ℤ → Whole
-wholeOf (pos n) = plain n
-wholeOf (negsuc n) = under n
-
 value-back : (z : ℤ) → valueOf (wholeOf z) ≡ z
 value-back (pos n) = refl
 value-back (negsuc n) = refl
-
-abbrev pub placeOf : Point → Place
-placeOf p = record { x = wholeOf (p .x); y = wholeOf (p .y) }
 
 point-back : (p : Point) → pointOf (placeOf p) ≡ p
 point-back p = ap₂ (λ x y. record { x = x; y = y }) (value-back (p .x)) (value-back (p .y))

@@ -4,5 +4,6 @@ pub mod Modes
 pub mod Grammar
 pub mod Spellings
 pub mod Scans
+pub mod Tokens
 pub mod Texts
 pub mod Plans

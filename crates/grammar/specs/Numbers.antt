@@ -28,6 +28,11 @@ plain n = record { below = false; size = n }
 abbrev pub under : ℕ → Whole
 under n = record { below = true; size = n }
 
+-- and back
+abbrev pub wholeOf : ℤ → Whole
+wholeOf (pos n) = plain n
+wholeOf (negsuc n) = under n
+
 -- of 64 bits
 abbrev pub fitting : Whole → Begun
 fitting w = cond (ltb (w .size) (2 ^ 63)) (Value w) Off

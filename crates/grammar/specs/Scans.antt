@@ -2,6 +2,7 @@
 use mathlib.Core.Bool.{Bool, true, false, cond}
 use mathlib.Core.List.{List, [], _∷_, _++_}
 use lib.Dec.{eqb}
+use lib.ListN.{drop}
 use Prim.Native.Nat.{ℕ, suc, _+_}
 use Rattle.grammar.specs.Grammar.{Ring, Polygon}
 use Rattle.geom.specs.declared.Point.{Point}
@@ -10,7 +11,7 @@ use Rattle.grammar.specs.Modes.{Mode}
 use Rattle.grammar.specs.Modes.{Start, Word, Spaced, EmptyText, WantMember, EmptyMember, AfterMember, WantRing, WantX, InX, WantY, InY, AfterY, AfterRing, Finished, Broken}
 use Rattle.grammar.specs.Modes.{Event}
 use Rattle.grammar.specs.Modes.{Nothing, Corner, RingEnds, PolygonEnds}
-use Rattle.grammar.specs.Numbers.{valueOf}
+use Rattle.grammar.specs.Numbers.{valueOf, wholeOf}
 use Rattle.grammar.specs.Modes.{nextMode, eventOf}
 use Rattle.grammar.specs.Spellings.{Spelling, Spells, Breaks}
 
@@ -25,6 +26,9 @@ nothing = record { done = []; rings = []; ring = [] }
 
 abbrev pub pointOf : Place → Point
 pointOf p = record { x = valueOf (p .x); y = valueOf (p .y) }
+
+abbrev pub placeOf : Point → Place
+placeOf p = record { x = wholeOf (p .x); y = wholeOf (p .y) }
 
 abbrev pub built : So-far → Event → So-far
 built f Nothing = f
@@ -76,3 +80,7 @@ read k mode f (b ∷ text) = cond (isBroken (nextMode mode b)) (Breaks k) (read 
 
 unfoldable pub spelling : List ℕ → Spelling
 spelling text = read 0 Start nothing text
+
+-- the same from a place of the text on
+abbrev pub readFrom : List ℕ → ℕ → Mode → So-far → Spelling
+readFrom text at mode f = read at mode f (drop at text)

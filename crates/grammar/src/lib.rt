@@ -1,10 +1,21 @@
 // Well-Known Text (document 02, R-1): which texts are of it and what they spell; its spaces and numbers read.
-ghost use mathlib.Core.Path.{_≡_};
-ghost use Rattle.grammar.specs.Numbers.{isDigit};
+ghost use Prim.Native.Nat.{_≤_};
+ghost use lib.ListN.{length};
+ghost use Rattle.grammar.specs.Tokens.{Skipped};
 
-/// Whether a byte is a digit.
-pub(crate) fn is_digit(byte: u8) -> bool
-    ensures { λ r. ⌜ r ≡ isDigit byte ⌝ }
+pub mod numbers;
+
+/// The first place of a text, from a place on, that holds no space.
+pub fn skip_spaces(text: &[u8], at: usize) -> usize
+    requires { ⌜ at ≤ length (now text) ⌝ }
+    ensures { λ r. ⌜ Skipped (now (text .entry)) at r ⌝ }
 {
-    (48 <= byte) & (byte <= 57)
+    let mut place = at;
+    while place < text.len() {
+        if text[place] != b' ' {
+            return place;
+        }
+        place += 1;
+    }
+    place
 }

@@ -1,8 +1,8 @@
 //! Exact point location for a server that keeps prepared plans.
 //!
-//! A [`Plan`] is an outline with or without holes, a list of them, or a tree of outlines. [`Prepared`] is a plan with a hierarchy of boxes
-//! over its edges: it says whether a point lies inside, outside or on the boundary, on the integer grid and on the half-grid, and lets
-//! single corners be moved and moves be undone.
+//! A [`Plan`] is an outline with or without holes, a list of them, or a tree of outlines. It comes from rings, from text or from Well-Known
+//! Text, as which a list also goes back. [`Prepared`] is a plan with a hierarchy of boxes over its edges: it says whether a point lies
+//! inside, outside or on the boundary, on the integer grid and on the half-grid, and lets single corners be moved and moves be undone.
 //!
 //! ```
 //! use findspot::{Location, Plan, Point, Prepared};
@@ -27,10 +27,10 @@
 //!
 //! # What is proved
 //!
-//! Every look-up, move and undo, the preparing itself and the reading of text are calls of the static library `capi`, whose functions are
-//! proved to meet their contracts: the replies are those of the winding and even-odd rules, a look-up through the boxes and one ring by
-//! ring reply alike, a refused call changes nothing, and once all moves are undone the tables are as first prepared. This crate keeps the
-//! tables that the library is lent, so nobody else writes them, and what the library answers to unsound tables never comes up.
+//! Every look-up, move and undo, the preparing itself and the reading and writing of text are calls of the static library `capi`, whose
+//! functions are proved to meet their contracts: the replies are those of the winding and even-odd rules, a look-up through the boxes and
+//! one ring by ring reply alike, a refused call changes nothing, and once all moves are undone the tables are as first prepared. This crate
+//! keeps the tables that the library is lent, so nobody else writes them, and what the library answers to unsound tables never comes up.
 //!
 //! Outside the proof are this crate's own lines: the lists that become tables, the words of messages, and the module that calls the
 //! library, the only one with `unsafe` code.
@@ -70,6 +70,7 @@ mod point;
 mod prepared;
 mod refusal;
 mod text;
+mod wkt;
 
 pub use location::Location;
 pub use plan::{Kind, Plan};
@@ -88,13 +89,13 @@ pub const MAX_POLYGONS: usize = 65_536;
 pub const MAX_POINTS: usize = 65_536;
 /// The most moves that can be kept for undoing.
 pub const MAX_UNDO: usize = 65_536;
-/// The most bytes that the text of a plan may have.
+/// The most bytes that the text of a plan may have, Well-Known Text too.
 pub const MAX_TEXT: usize = 65_536;
 
 /// The bytes of stack that the library takes at most. What the calling program itself has on its stack comes on top.
 pub const STACK_NEEDED: usize = 600 * 1024;
 
-/// The example of the crate's README.
+/// The examples of the crate's README.
 #[cfg(doctest)]
 #[doc = include_str!("../README.md")]
 struct Readme;

@@ -2,7 +2,7 @@
 
 use crate::point::Point;
 use crate::refusal::Refusal;
-use crate::text;
+use crate::{text, wkt};
 
 /// How the rings of a plan make up its region.
 #[derive(Clone, Copy, Debug, PartialEq, Eq, Hash)]
@@ -39,7 +39,7 @@ impl Kind {
 /// Corners, edges and rings are numbered from 0 in the order in which they are handed over. Edge i starts at corner i; the last edge of a
 /// ring ends at the ring's first corner. Rings may be empty, and may cross and repeat themselves.
 ///
-/// A plan is judged when it is prepared, by the proved code: [`Refusal::TooMany`] or [`Refusal::Uneven`]. Making one refuses nothing.
+/// A plan is judged when it is prepared or written, by the proved code: [`Refusal::TooMany`] or [`Refusal::Uneven`]. Making one refuses nothing.
 #[derive(Clone, Debug, PartialEq, Eq, Hash)]
 pub struct Plan {
     kind: Kind,
@@ -149,6 +149,61 @@ impl Plan {
     /// breaks it. [`line`](crate::line) gives that line, and [`Refusal::explain`] says what is wrong with it.
     pub fn from_text(text: &[u8]) -> Result<Plan, Refusal> {
         text::read(text)
+    }
+
+    /// The plan that a Well-Known Text holds, `POLYGON` or `MULTIPOLYGON` of OGC Simple Features. It is always a list.
+    ///
+    /// Words are capitals, and numbers those of [`Plan::from_text`]. Spaces are free round brackets and commas; one or more part the numbers
+    /// of a position and a word from `EMPTY`. No other byte is taken: of a file's text the line end has to be cut off. Each ring ends with
+    /// its first position again, which is dropped. `EMPTY` stands for the whole or for a member of a `MULTIPOLYGON`, and adds no polygon.
+    ///
+    /// ```
+    /// # use findspot::{Plan, Refusal};
+    /// let outer = [(0, 0), (10, 0), (10, 10)];
+    /// let plan = Plan::from_wkt(b"POLYGON ((0 0, 10 0, 10 10, 0 0))")?;
+    /// assert_eq!(plan, Plan::ring(outer));
+    /// let plan = Plan::from_wkt(b"MULTIPOLYGON(((0 0,10 0,10 10,0 0),(9 5,9 6,8 5,9 5)),EMPTY)")?;
+    /// assert_eq!(plan, Plan::polygon([outer, [(9, 5), (9, 6), (8, 5)]]));
+    ///
+    /// assert_eq!(Plan::from_wkt(b"POLYGON Z EMPTY"), Err(Refusal::OffGrammar(8)));
+    /// assert_eq!(Plan::from_wkt(b"POLYGON ((0 0, 10 0, 10 10))"), Err(Refusal::Unclosed));
+    /// # Ok::<(), findspot::Refusal>(())
+    /// ```
+    ///
+    /// The reader is the library's, which is proved.
+    ///
+    /// # Errors
+    ///
+    /// In this order: [`Refusal::TextTooLong`] (1); [`Refusal::OffGrammar`] (21) with the place, from 0, at which the text leaves the grammar, or
+    /// its length where it only ends early; [`Refusal::Unclosed`] (22) where the ends of a ring differ or it has one position.
+    /// [`Refusal::explain`] says what is due at 21's place.
+    pub fn from_wkt(text: &[u8]) -> Result<Plan, Refusal> {
+        wkt::read(text)
+    }
+
+    /// The plan as Well-Known Text: a `MULTIPOLYGON`, of one polygon too, with one space behind that word, behind each comma and between x and y,
+    /// and no other; `MULTIPOLYGON EMPTY` where there is no polygon. Each ring ends with its first corner again. Coordinates may be out of
+    /// range. [`Plan::from_wkt`] reads the same plan from it.
+    ///
+    /// ```
+    /// # use findspot::{Plan, Refusal};
+    /// let plan = Plan::ring([(0, 0), (8, 0), (0, 8)]);
+    /// assert_eq!(plan.to_wkt()?, "MULTIPOLYGON (((0 0, 8 0, 0 8, 0 0)))");
+    /// assert_eq!(Plan::from_wkt(plan.to_wkt()?.as_bytes())?, plan);
+    ///
+    /// assert_eq!(Plan::tree([[(0, 0), (8, 0), (0, 8)]]).to_wkt(), Err(Refusal::Unclosed));
+    /// # Ok::<(), findspot::Refusal>(())
+    /// ```
+    ///
+    /// The writer is the library's, which is proved.
+    ///
+    /// # Errors
+    ///
+    /// In this order: [`Refusal::TooMany`] (4) and [`Refusal::Uneven`] (3) as [`Prepared::new`](crate::Prepared::new); [`Refusal::Unclosed`] (22)
+    /// where the plan is a tree or has an empty ring; [`Refusal::TextTooLong`] (1) where the text would have more than
+    /// [`MAX_TEXT`](crate::MAX_TEXT) bytes.
+    pub fn to_wkt(&self) -> Result<String, Refusal> {
+        wkt::write(self)
     }
 
     /// The plan's kind.

@@ -211,6 +211,25 @@ impl Prepared {
         )
     }
 
+    /// The plan with its corners as they now stand, as Well-Known Text: [`Plan::to_wkt`] of [`Prepared::plan`].
+    ///
+    /// ```
+    /// # use findspot::{Plan, Point, Prepared};
+    /// let plan = Plan::from_wkt(b"POLYGON ((0 0, 8 0, 0 8, 0 0))")?;
+    /// let mut prepared = Prepared::with_undo(&plan, 1)?;
+    /// prepared.move_corner(1, Point::new(9, 0))?;
+    /// assert_eq!(prepared.to_wkt()?, "MULTIPOLYGON (((0 0, 9 0, 0 8, 0 0)))");
+    /// # Ok::<(), findspot::Refusal>(())
+    /// ```
+    ///
+    /// # Errors
+    ///
+    /// In this order: [`Refusal::Unclosed`] (22) where the plan is a tree or has an empty ring; [`Refusal::TextTooLong`] (1) where the text would
+    /// have more than [`MAX_TEXT`](crate::MAX_TEXT) bytes.
+    pub fn to_wkt(&self) -> Result<String, Refusal> {
+        self.plan().to_wkt()
+    }
+
     /// The number of nodes of the hierarchy of boxes; 0 where the plan is out of range.
     pub fn node_count(&self) -> usize {
         self.nodes

@@ -2,6 +2,7 @@
 
 use crate::{MAX_COORD, MAX_CORNERS, MAX_POINTS, MAX_POLYGONS, MAX_RINGS, MAX_TEXT, MAX_UNDO};
 use crate::{text, wkt};
+use std::borrow::Cow;
 use std::error::Error;
 use std::fmt;
 
@@ -9,16 +10,27 @@ use std::fmt;
 const MEND_LINE: &str = "mend it: `plan` comes first, alone or with `list` or `tree`, then `outer`, `hole` or `node` for a ring and `at` \
     with x and y for a corner, with single tabs between fields and a line feed after each line";
 
+/// What to do about refusal 3.
+const MEND_COUNTS: &str = "the ring lengths have to sum to the corners and, in a list, the ring counts to the rings, with a ring in each \
+    polygon";
+
+/// What to do about refusal 11.
+const BUILD_BOTH: &str =
+    "it is not the one that belongs to this crate: build both from one state of the repository";
+
 /// What to do about refusal 21.
-const MEND_WKT: &str = "mend it there: `POLYGON` or `MULTIPOLYGON` comes first, then `EMPTY` or rings in brackets such as \
-    `((0 0, 8 0, 0 8, 0 0))`, with words in capitals, whole numbers of 64 bits in their shortest form, spaces as the only other bytes and \
-    no line end";
+const MEND_WKT: &str = "mend it there: `POLYGON` or `MULTIPOLYGON` comes first, then `EMPTY` or brackets with rings such as \
+    `(0 0, 8 0, 0 8, 0 0)`, with words in capitals, whole numbers of 64 bits in their shortest form, and no tab or line end";
+
+/// What is wrong where refusal 22 comes, on reading and on writing.
+const UNCLOSED: &str = "a ring of the text ends elsewhere than it begins or has one position, or the plan to be written is a tree or has an \
+    empty ring";
 
 /// Why a call is refused. A refused call has changed nothing.
 #[derive(Clone, Copy, Debug, PartialEq, Eq, Hash)]
 #[non_exhaustive]
 pub enum Refusal {
-    /// 1: the text has more than [`MAX_TEXT`] bytes, or would have so many, written.
+    /// 1: the text has more than [`MAX_TEXT`] bytes, or the text of a plan to be written would have.
     TextTooLong,
     /// 2: the first line, counted from 1, that breaks the text's format. An empty text breaks it in line 1.
     BadLine(usize),
@@ -99,8 +111,8 @@ impl Refusal {
     /// let text = b"POLYGON ((0 0, 8.5 0, 0 8, 0 0))";
     /// let refusal = Plan::from_wkt(text).unwrap_err();
     /// assert!(refusal.explain(text).starts_with(
-    ///     "refusal 21: byte 16, counted from 0, is off the grammar of Well-Known Text: `.` stands there, where a space or a digit \
-    ///      from 0 to 9 is due; mend it there: "
+    ///     "refusal 21: at byte 16, counted from 0, the text leaves the grammar of Well-Known Text: `.` stands there, where a space \
+    ///      or a digit from 0 to 9 is due; mend it there: "
     /// ));
     /// ```
     pub fn explain(self, text: &[u8]) -> String {
@@ -109,8 +121,73 @@ impl Refusal {
             Refusal::OffGrammar(place) => wkt::fault(text, place),
             _ => return self.to_string(),
         };
-        // A message is what is wrong, a semicolon and what to do.
-        self.to_string().replacen("; ", &format!(": {fault}; "), 1)
+        self.message(&format!("{}: {fault}", self.wrong()))
+    }
+
+    /// The number, what is wrong, and what to do about it.
+    fn message(self, wrong: &str) -> String {
+        format!("refusal {}: {wrong}; {}", self.number(), self.remedy())
+    }
+
+    /// What is wrong.
+    fn wrong(self) -> Cow<'static, str> {
+        match self {
+            Refusal::TextTooLong => {
+                format!("the text has, or would have, more than {MAX_TEXT} bytes").into()
+            }
+            Refusal::BadLine(line) => format!("line {line} breaks the format").into(),
+            Refusal::Uneven => "the plan's tables do not fit together".into(),
+            Refusal::TooMany => "too many entries".into(),
+            Refusal::NoSuchCorner => "there is no such corner".into(),
+            Refusal::PlaceOutOfRange => "the new place is out of range".into(),
+            Refusal::TableTooShort(table) => {
+                format!("the library finds the table of {} too short", table.name()).into()
+            }
+            Refusal::PlanOutOfRange => {
+                "the plan has a corner out of range, so none can be moved".into()
+            }
+            Refusal::UndoFull => "there is no room to record the move".into(),
+            Refusal::NothingToUndo => "there is nothing to undo".into(),
+            Refusal::Unsound => "the tables are not such as preparing and corrections leave".into(),
+            Refusal::OffGrammar(place) => format!(
+                "at byte {place}, counted from 0, the text leaves the grammar of Well-Known Text"
+            )
+            .into(),
+            Refusal::Unclosed => UNCLOSED.into(),
+        }
+    }
+
+    /// What to do about it.
+    fn remedy(self) -> Cow<'static, str> {
+        match self {
+            Refusal::TextTooLong => "hand a larger plan over as rings, or split it".into(),
+            Refusal::BadLine(_) => MEND_LINE.into(),
+            Refusal::Uneven => MEND_COUNTS.into(),
+            Refusal::TooMany => format!(
+                "there may be {MAX_CORNERS} corners, {MAX_RINGS} rings, {MAX_POLYGONS} polygons, {MAX_POINTS} listed points and {MAX_UNDO} \
+                 moves to undo: split what has more"
+            )
+            .into(),
+            Refusal::NoSuchCorner => "give its number in the plan's order, from 0".into(),
+            Refusal::PlaceOutOfRange => {
+                format!("both its coordinates have to lie within {MAX_COORD}, either sign").into()
+            }
+            Refusal::TableTooShort(_) => BUILD_BOTH.into(),
+            Refusal::PlanOutOfRange => format!(
+                "prepare it again with every coordinate within {MAX_COORD}, either sign"
+            )
+            .into(),
+            Refusal::UndoFull => format!(
+                "undo one, or prepare the plan with room for more moves ({MAX_UNDO} at most)"
+            )
+            .into(),
+            Refusal::NothingToUndo => {
+                "every move has been taken back, so leave the plan as it is".into()
+            }
+            Refusal::Unsound => "prepare the plan again".into(),
+            Refusal::OffGrammar(_) => MEND_WKT.into(),
+            Refusal::Unclosed => "end each ring with its first position, or write a list whose rings all have corners".into(),
+        }
     }
 
     /// The refusal of a number that the library answers, with the line that 2 names, the table that 11 names or the place that 21 names.
@@ -164,60 +241,7 @@ impl Table {
 /// The number, what is wrong, and what to do about it.
 impl fmt::Display for Refusal {
     fn fmt(&self, formatter: &mut fmt::Formatter<'_>) -> fmt::Result {
-        write!(formatter, "refusal {}: ", self.number())?;
-        match self {
-            Refusal::TextTooLong => write!(
-                formatter,
-                "the text has, or written would have, more than {MAX_TEXT} bytes; hand a larger plan over as rings, or split it"
-            ),
-            Refusal::BadLine(line) => {
-                write!(formatter, "line {line} breaks the format; {MEND_LINE}")
-            }
-            Refusal::Uneven => formatter.write_str(
-                "the plan's tables do not fit together; the ring lengths have to sum to the corners and, in a list, the ring counts \
-                 to the rings, with a ring in each polygon",
-            ),
-            Refusal::TooMany => write!(
-                formatter,
-                "too many entries; there may be {MAX_CORNERS} corners, {MAX_RINGS} rings, {MAX_POLYGONS} polygons, {MAX_POINTS} \
-                 listed points and {MAX_UNDO} moves to undo: split what has more"
-            ),
-            Refusal::NoSuchCorner => formatter
-                .write_str("there is no such corner; give its number in the plan's order, from 0"),
-            Refusal::PlaceOutOfRange => write!(
-                formatter,
-                "the new place is out of range; both its coordinates have to lie within {MAX_COORD}, either sign"
-            ),
-            Refusal::TableTooShort(table) => write!(
-                formatter,
-                "the library finds the table of {} too short; it is not the one that belongs to this crate: build both from one state \
-                 of the repository",
-                table.name()
-            ),
-            Refusal::PlanOutOfRange => write!(
-                formatter,
-                "the plan has a corner out of range, so none can be moved; prepare it again with every coordinate within {MAX_COORD}, \
-                 either sign"
-            ),
-            Refusal::UndoFull => write!(
-                formatter,
-                "there is no room to record the move; undo one, or prepare the plan with room for more moves ({MAX_UNDO} at most)"
-            ),
-            Refusal::NothingToUndo => {
-                formatter.write_str("there is nothing to undo; every move has been taken back, so leave the plan as it is")
-            }
-            Refusal::Unsound => formatter.write_str(
-                "the tables are not such as preparing and corrections leave; prepare the plan again",
-            ),
-            Refusal::OffGrammar(place) => write!(
-                formatter,
-                "byte {place}, counted from 0, is off the grammar of Well-Known Text; {MEND_WKT}"
-            ),
-            Refusal::Unclosed => formatter.write_str(
-                "a ring of the text ends elsewhere than it begins or has one position, or the plan to be written is a tree or has an \
-                 empty ring; end each ring with its first position, or write a list whose rings all have corners",
-            ),
-        }
+        formatter.write_str(&self.message(&self.wrong()))
     }
 }
 

@@ -50,13 +50,14 @@ fn list(corners: usize, lengths: Vec<usize>, counts: Vec<usize>) -> Result<(), R
 fn of_texts() -> Vec<Said> {
     let long = vec![b'\n'; MAX_TEXT + 1];
     let bytes = format!("{MAX_TEXT} bytes");
-    let mut all = said([Plan::from_text(&long)], 1, &["text", &bytes], &["rings"]);
-    all.extend(said(
-        [locate_text(&long, ORIGIN)],
-        1,
-        &["text", &bytes],
-        &["rings"],
-    ));
+    let written = Plan::ring(vec![ORIGIN; MAX_TEXT / 5]).to_wkt();
+    let too_long = [
+        Plan::from_text(&long).map(|_| ()),
+        locate_text(&long, ORIGIN).map(|_| ()),
+        Plan::from_wkt(&long).map(|_| ()),
+        written.map(|_| ()),
+    ];
+    let mut all = said(too_long, 1, &["text", &bytes], &["rings", "split"]);
     let words = [
         "mend",
         "`plan`",
@@ -83,6 +84,40 @@ fn of_texts() -> Vec<Said> {
             &words,
         ));
     }
+    all
+}
+
+fn of_well_known_text() -> Vec<Said> {
+    let words = [
+        "mend",
+        "`POLYGON`",
+        "`MULTIPOLYGON`",
+        "`EMPTY`",
+        "brackets",
+        "capitals",
+        "whole numbers",
+        "64 bits",
+        "no tab or line end",
+    ];
+    let mut all = Vec::new();
+    for (text, place) in [
+        (&b""[..], "byte 0,"),
+        (b"POLYGON Z EMPTY", "byte 8,"),
+        (b"POLYGON ((0 0", "byte 13,"),
+    ] {
+        let wrong = [place, "from 0", "grammar", "Well-Known Text"];
+        all.extend(said([Plan::from_wkt(text)], 21, &wrong, &words));
+    }
+    let empty: [Point; 0] = [];
+    let unclosed = [
+        Plan::from_wkt(b"POLYGON ((0 0, 1 1))").map(|_| ()),
+        Plan::from_wkt(b"POLYGON ((0 0))").map(|_| ()),
+        Plan::tree([SQUARE]).to_wkt().map(|_| ()),
+        Plan::ring(empty).to_wkt().map(|_| ()),
+    ];
+    let wrong = ["ends elsewhere", "one position", "a tree", "an empty ring"];
+    let remedy = ["first position", "a list", "corners"];
+    all.extend(said(unclosed, 22, &wrong, &remedy));
     all
 }
 
@@ -160,6 +195,7 @@ fn of_no_caller() -> Vec<Said> {
         (Table::Polygons, "table of polygons"),
         (Table::Nodes, "table of nodes"),
         (Table::Edges, "table of edges"),
+        (Table::Output, "table of output bytes"),
     ];
     let mut all = Vec::new();
     for (table, name) in tables {
@@ -173,6 +209,7 @@ fn of_no_caller() -> Vec<Said> {
 
 fn all() -> Vec<Said> {
     let mut all = of_texts();
+    all.extend(of_well_known_text());
     all.extend(of_plans());
     all.extend(of_corrections());
     all.extend(of_no_caller());
@@ -278,13 +315,100 @@ fn what_is_wrong_with_a_line_is_said_beside_it() {
     assert!(stray.contains("a list has `outer` and `hole`, a tree `node`"));
 }
 
+/// Well-Known Texts, each with the place at which it leaves the grammar and what is wrong there.
+const OFF_GRAMMAR: [(&[u8], usize, &str); 14] = [
+    (b"", 0, "it ends there, where `M` or `P` is due"),
+    (
+        b" POLYGON EMPTY",
+        0,
+        "a space stands there, where `M` or `P` is due",
+    ),
+    (b"Polygon EMPTY", 1, "`o` stands there, where `O` is due"),
+    (
+        b"POLYGON Z EMPTY",
+        8,
+        "`Z` stands there, where a space or `(` or `E` is due",
+    ),
+    (
+        b"POLYGON EMPTY\n",
+        13,
+        "`\\n` stands there, where its end is due",
+    ),
+    (
+        b"POLYGON (EMPTY)",
+        9,
+        "`E` stands there, where a space or `(` is due",
+    ),
+    (
+        b"POLYGON (())",
+        10,
+        "`)` stands there, where a space or `-` or a digit from 0 to 9 is due",
+    ),
+    (
+        b"POLYGON ((01 0",
+        11,
+        "`1` stands there, where a space is due",
+    ),
+    (
+        b"POLYGON ((-0 0",
+        11,
+        "`0` stands there, where a digit from 1 to 9 is due",
+    ),
+    (
+        b"POLYGON ((1.5 0",
+        11,
+        "`.` stands there, where a space or a digit from 0 to 9 is due",
+    ),
+    (
+        b"POLYGON ((9223372036854775808",
+        28,
+        "`8` stands there, where a space or a digit from 0 to 7 is due",
+    ),
+    (
+        b"POLYGON ((0 0 0",
+        14,
+        "`0` stands there, where a space or `)` or `,` is due",
+    ),
+    (
+        b"POLYGON ((0 0, 0 0)",
+        19,
+        "it ends there, where a space or `)` or `,` is due",
+    ),
+    (
+        b"POLYGON ((0 0, 1 1))\xff",
+        20,
+        "`\\xff` stands there, where a space or its end is due",
+    ),
+];
+
 #[test]
-fn every_number_of_document_01_is_among_them() {
+fn what_is_due_at_a_place_is_said_beside_it() {
+    for (text, place, fault) in OFF_GRAMMAR {
+        let refusal = Plan::from_wkt(text).expect_err("it is refused");
+        assert_eq!(refusal, Refusal::OffGrammar(place), "{fault}");
+        let said = "leaves the grammar of Well-Known Text";
+        let explained = refusal
+            .to_string()
+            .replace(said, &format!("{said}: {fault}"));
+        assert_eq!(refusal.explain(text), explained);
+    }
+    // nothing can stand behind a text as long as texts may be, and nothing is known of another text than the one refused
+    let longest = [b"POLYGON", &b" ".repeat(MAX_TEXT)[7..]].concat();
+    let early = Plan::from_wkt(&longest).expect_err("it is refused");
+    assert_eq!(early, Refusal::OffGrammar(MAX_TEXT));
+    for other in [&longest[..], b"LINESTRING"] {
+        let explained = early.explain(other);
+        assert!(explained.contains("it ends there; mend"), "{explained}");
+    }
+}
+
+#[test]
+fn every_number_is_among_them() {
     let numbers: BTreeSet<u8> = all().iter().map(|case| case.number).collect();
     assert!(
         numbers
             .into_iter()
-            .eq([1, 2, 3, 4, 5, 6, 11, 12, 13, 14, 15])
+            .eq([1, 2, 3, 4, 5, 6, 11, 12, 13, 14, 15, 21, 22])
     );
 }
 

@@ -1,4 +1,4 @@
-//! Every refusal that a caller can bring about, by number and in order, and that it changes nothing.
+//! Every refusal that a caller can bring about, by number and in order, and that it changes nothing. Those of Well-Known Text: `wkt.rs`.
 
 use findspot::{
     Kind, Location, MAX_COORD, MAX_CORNERS, MAX_POINTS, MAX_POLYGONS, MAX_RINGS, MAX_TEXT,

@@ -32,7 +32,7 @@ const WORDS: &[&str] = &[
 ];
 
 /// Numbers at the ends of the range and of 64 bits, and what is easily taken for a number.
-const NUMBERS: &[&str] = &[
+pub const NUMBERS: &[&str] = &[
     "0",
     "-1",
     "7",
@@ -58,6 +58,21 @@ const NUMBERS: &[&str] = &[
     " 1",
     "1 ",
 ];
+
+/// All texts that one byte changed, put in or left out makes of a text.
+pub fn one_byte_away(text: &[u8]) -> Vec<Vec<u8>> {
+    let mut texts = Vec::new();
+    for place in 0..text.len() {
+        for byte in 0..=u8::MAX {
+            texts.push(replaced(text, place..place + 1, &[byte]));
+            texts.push(replaced(text, place..place, &[byte]));
+        }
+        texts.push(replaced(text, place..place + 1, &[]));
+    }
+    let end = text.len();
+    texts.extend((0..=u8::MAX).map(|byte| replaced(text, end..end, &[byte])));
+    texts
+}
 
 /// The text with one part of it replaced.
 pub fn replaced(text: &[u8], part: Range<usize>, replacement: &[u8]) -> Vec<u8> {
@@ -112,7 +127,8 @@ fn swap_lines(random: &mut Random, text: &[u8]) -> Vec<u8> {
     lines.concat()
 }
 
-fn cut(random: &mut Random, text: &[u8]) -> Vec<u8> {
+/// The text without an end of it.
+pub fn cut(random: &mut Random, text: &[u8]) -> Vec<u8> {
     text[..random.below(text.len())].to_vec()
 }
 

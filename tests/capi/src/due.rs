@@ -171,6 +171,19 @@ fn early_correction(state: State, rows: usize, call: Call) -> u64 {
     }
 }
 
+/// The number by which a plan is refused for its counts, 4 or 3, or 0. The polygon table is looked at in a list alone.
+pub fn plan_refusal(list: bool, plan: &Plan) -> u64 {
+    let corners = plan.coordinates.len() / 2;
+    let (rings, polygons) = (plan.ring_lengths.len(), plan.ring_counts.len());
+    if corners > MOST_CORNERS || rings > MOST_RINGS || list && polygons > MOST_RINGS {
+        return 4;
+    }
+    let sum = |numbers: &[usize]| numbers.iter().map(|&number| number as u128).sum::<u128>();
+    let uneven = plan.coordinates.len() % 2 == 1 || sum(&plan.ring_lengths) != corners as u128;
+    let parted = sum(&plan.ring_counts) == rings as u128 && !plan.ring_counts.contains(&0);
+    if uneven || list && !parted { 3 } else { 0 }
+}
+
 /// What preparing is due to answer: the refusal, its table and the number of nodes.
 pub fn preparing(kind: u64, plan: &Plan, tables: &Tables) -> (u64, u64, u64) {
     let list = kind == Kind::List as u64;
@@ -179,14 +192,9 @@ pub fn preparing(kind: u64, plan: &Plan, tables: &Tables) -> (u64, u64, u64) {
     if kind > 1 {
         return (15, 0, 0);
     }
-    if corners > MOST_CORNERS || rings > MOST_RINGS || list && polygons > MOST_RINGS {
-        return (4, 0, 0);
-    }
-    let sum = |numbers: &[usize]| numbers.iter().map(|&number| number as u128).sum::<u128>();
-    let uneven = plan.coordinates.len() % 2 == 1 || sum(&plan.ring_lengths) != corners as u128;
-    let parted = sum(&plan.ring_counts) == rings as u128 && !plan.ring_counts.contains(&0);
-    if uneven || list && !parted {
-        return (3, 0, 0);
+    match plan_refusal(list, plan) {
+        0 => {}
+        refusal => return (refusal, 0, 0),
     }
     let in_range = plan.in_range();
     let nodes = node_count(corners);

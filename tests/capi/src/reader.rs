@@ -86,7 +86,7 @@ impl Draft {
 }
 
 /// The 64-bit number that a field is, in its one decimal form.
-fn number(field: &[u8]) -> Option<i64> {
+pub fn number(field: &[u8]) -> Option<i64> {
     let field = str::from_utf8(field).ok()?;
     let number: i64 = field.parse().ok()?;
     (number.to_string() == field).then_some(number)

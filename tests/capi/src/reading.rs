@@ -4,7 +4,7 @@
 use crate::reader::{self, Refusal};
 use plans::plan::Plan;
 
-/// What reading a text answers: the refusal number or 0, the line or table that it names, and the plan's kind and counts.
+/// What reading a text answers: the refusal number or 0, the line, place or table that it names, and the plan's kind and counts.
 #[repr(C)]
 #[derive(Clone, Copy, Debug, Default, PartialEq, Eq)]
 pub struct Reading {
@@ -84,30 +84,39 @@ pub fn needed(plan: &Plan) -> [usize; 3] {
     ]
 }
 
-/// What reading a text into tables of these lengths is to answer, and the plan that the tables are to hold if it is read.
-pub fn due(text: &[u8], lengths: [usize; 3]) -> (Reading, Option<Plan>) {
+/// What a reader finds in a text: its plan, or the number by which it is refused and the line or place that goes with it, else 0.
+pub type Judged = Result<Plan, (u64, u64)>;
+
+/// The same by item 10.
+pub fn judged(text: &[u8]) -> Judged {
+    reader::read(text).map_err(|refusal| match refusal {
+        Refusal::TooLong => (1, 0),
+        Refusal::Line(line) => (2, line as u64),
+    })
+}
+
+/// What reading a text of which this is found into tables of these lengths is to answer.
+pub fn due(judged: &Judged, lengths: [usize; 3]) -> Reading {
     let refused = |refusal, detail| Reading {
         refusal,
         detail,
         ..Reading::default()
     };
-    let plan = match reader::read(text) {
+    let plan = match judged {
         Ok(plan) => plan,
-        Err(Refusal::TooLong) => return (refused(1, 0), None),
-        Err(Refusal::Line(line)) => return (refused(2, line as u64), None),
+        &Err((refusal, detail)) => return refused(refusal, detail),
     };
-    for ((table, length), needed) in (1..).zip(lengths).zip(needed(&plan)) {
+    for ((table, length), needed) in (1..).zip(lengths).zip(needed(plan)) {
         if length < needed {
-            return (refused(11, table), None);
+            return refused(11, table);
         }
     }
-    let reading = Reading {
+    Reading {
         refusal: 0,
         detail: 0,
         kind: plan.kind as u64,
         corners: (plan.coordinates.len() / 2) as u64,
         rings: plan.ring_lengths.len() as u64,
         polygons: plan.ring_counts.len() as u64,
-    };
-    (reading, Some(plan))
+    }
 }
