@@ -1,31 +1,20 @@
 //! Times the proved engine beside the original Rust, shape by shape, and writes the figures as Markdown tables to standard output. What it is
 //! at stands on standard error.
 
-mod clock;
 mod measure;
 mod points;
 mod random;
 mod shapes;
 mod table;
 
-use measure::{Effort, Measured, measure};
+use measure::{Measured, measure};
 use shapes::{Named, SHAPES};
 use std::env;
 use std::process::ExitCode;
 use table::Row;
+use timing::in_turn::Effort;
 
 const SIZES: [usize; 3] = [1_000, 100_000, 1_000_000];
-
-const WHOLE: Effort = Effort {
-    repetitions: 7,
-    lasting: 5e7,
-};
-
-/// Enough to see that all of it runs.
-const QUICK: Effort = Effort {
-    repetitions: 1,
-    lasting: 1e6,
-};
 
 const HELP: &str = "\
 bench [--quick] [--shape NAME].. [--size CORNERS]..
@@ -68,7 +57,7 @@ fn help() -> String {
 /// What is asked for; nothing but help where that is.
 fn wanted(mut arguments: impl Iterator<Item = String>) -> Result<Option<Wanted>, String> {
     let mut wanted = Wanted {
-        effort: WHOLE,
+        effort: Effort::WHOLE,
         shapes: Vec::new(),
         sizes: Vec::new(),
     };
@@ -76,7 +65,7 @@ fn wanted(mut arguments: impl Iterator<Item = String>) -> Result<Option<Wanted>,
         let mut value = || arguments.next().ok_or(format!("{argument} wants a value"));
         match argument.as_str() {
             "--help" => return Ok(None),
-            "--quick" => wanted.effort = QUICK,
+            "--quick" => wanted.effort = Effort::QUICK,
             "--shape" => wanted.shapes.push(shape(&value()?)?),
             "--size" => wanted.sizes.push(size(&value()?)?),
             _ => return Err(format!("unknown argument {argument}")),

@@ -1,27 +1,12 @@
 //! One shape measured: each operation by both engines in turn, repetition after repetition.
 
-use crate::clock::{median, timed};
 use crate::points::{moves, points};
 use crate::shapes::{Corner, Shape};
 use findspot::Kind;
 use polyclip::{PolyNode, PolyTree, Polygon, Preparable};
 use std::hint::black_box;
-
-/// How much is measured.
-#[derive(Clone, Copy)]
-pub struct Effort {
-    /// How often each operation is repeated; the median counts.
-    pub repetitions: usize,
-    /// How many nanoseconds one repetition of many look-ups should take.
-    pub lasting: f64,
-}
-
-/// Nanoseconds a call.
-#[derive(Clone, Copy)]
-pub struct Figures {
-    pub ours: f64,
-    pub original: f64,
-}
+use timing::clock::{median, timed};
+use timing::in_turn::{Effort, Figures, in_turn, means_in_turn};
 
 /// What is measured of one shape.
 pub struct Measured {
@@ -137,35 +122,7 @@ fn compare_preparing<G: Preparable>(
         black_box(&prepared);
         time
     };
-    let rounds = rounds(effort, ours().max(original()));
-    in_turn(effort, || mean(rounds, ours), || mean(rounds, original))
-}
-
-/// How often a piece of work that takes so long is done in one repetition.
-fn rounds(effort: Effort, time: f64) -> usize {
-    (effort.lasting / time.max(1.0)).clamp(1.0, 1e6) as usize
-}
-
-fn mean(rounds: usize, mut time: impl FnMut() -> f64) -> f64 {
-    (0..rounds).map(|_| time()).sum::<f64>() / rounds as f64
-}
-
-/// The medians of two ways to measure, taken in turn.
-fn in_turn(effort: Effort, ours: impl Fn() -> f64, original: impl Fn() -> f64) -> Figures {
-    let (mut of_ours, mut of_original) = (Vec::new(), Vec::new());
-    for repetition in 0..effort.repetitions {
-        if repetition % 2 == 0 {
-            of_ours.push(ours());
-            of_original.push(original());
-        } else {
-            of_original.push(original());
-            of_ours.push(ours());
-        }
-    }
-    Figures {
-        ours: median(of_ours),
-        original: median(of_original),
-    }
+    means_in_turn(effort, ours, original)
 }
 
 /// Look-ups by both, of as many of the points as there is time for. The replies are asserted to be the same.

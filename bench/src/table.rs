@@ -1,6 +1,8 @@
 //! The figures as Markdown tables: a table an operation, a row a shape, and for each size both engines and their ratio.
 
-use crate::measure::{Figures, Measured};
+use crate::measure::Measured;
+use timing::in_turn::Figures;
+use timing::markdown::{compared, grouped, line, rule};
 
 /// What was measured of one shape, at each size.
 pub struct Row {
@@ -18,11 +20,6 @@ pub fn write(sizes: &[usize], rows: &[Row]) {
     write_corrections(sizes, rows);
 }
 
-fn line(first: &str, cells: impl IntoIterator<Item = String>) {
-    let cells: Vec<String> = cells.into_iter().collect();
-    println!("| {first} | {} |", cells.join(" | "));
-}
-
 /// A table's head: the columns of each size, numbers to the right.
 fn head(sizes: &[usize], columns: &[&str]) {
     let heads = |size: &usize| {
@@ -34,8 +31,7 @@ fn head(sizes: &[usize], columns: &[&str]) {
         columns.iter().enumerate().map(column).collect::<Vec<_>>()
     };
     line("shape", sizes.iter().flat_map(heads));
-    let ruled = vec!["---:".to_string(); sizes.len() * columns.len()];
-    println!("|---|{}|", ruled.join("|"));
+    rule(sizes.len() * columns.len());
 }
 
 fn write_sizes(sizes: &[usize], rows: &[Row]) {
@@ -52,11 +48,7 @@ fn write_operation(name: &str, sizes: &[usize], rows: &[Row], of: impl Fn(&Measu
     println!("{name}, ns:\n");
     head(sizes, &["ours", "original", "ratio"]);
     for row in rows {
-        let cells = |m: &Measured| {
-            let Figures { ours, original } = of(m);
-            let ratio = format!("{:.2}", ours / original);
-            [grouped(ours), grouped(original), ratio]
-        };
+        let cells = |m: &Measured| compared(of(m));
         line(row.shape, row.measured.iter().flat_map(cells));
     }
     println!();
@@ -76,17 +68,4 @@ fn write_corrections(sizes: &[usize], rows: &[Row]) {
         };
         line(row.shape, row.measured.iter().flat_map(cells));
     }
-}
-
-/// A whole number with its thousands parted.
-fn grouped(number: f64) -> String {
-    let digits = format!("{number:.0}");
-    let mut grouped = String::new();
-    for (place, digit) in digits.chars().enumerate() {
-        if place > 0 && (digits.len() - place) % 3 == 0 {
-            grouped.push(',');
-        }
-        grouped.push(digit);
-    }
-    grouped
 }

@@ -13,6 +13,7 @@ use Rattle.grammar.specs.Texts.{closed, wktText}
 use Rattle.grammar.specs.Spellings.{Spells}
 use Rattle.grammar.specs.Scans.{spelling}
 use Rattle.grammar.specs.Plans.{numbersOf, ringNumbers, coordinates, ringLengths, lengths, counts}
+use Rattle.grammar.proofs.Tables.{numbers-append}
 use Rattle.grammar.proofs.Texts.{Writable, read-again, opened-again}
 
 flat : {A : Type 0} → List (List A) → List A
@@ -33,11 +34,6 @@ parts-lengths [] xs e = refl
 parts-lengths (n ∷ ns) xs e = ap₂ (λ k s. k ∷ s) (length-take-le n xs (omega arith)) (parts-lengths ns (drop n xs) (let l : total ns ≡ length (drop n xs) = omega (arith, length-drop n xs) in l))
 
 -- ---- closed and read again
-
-numbers-append : (a b : Ring) → numbersOf (a ++ b) ≡ numbersOf a ++ numbersOf b
-unfolding numbersOf
-numbers-append [] b = refl
-numbers-append (p ∷ a) b = ap (λ s. p .x ∷ p .y ∷ s) (numbers-append a b)
 
 flat-append : {A : Type 0} (a b : List (List A)) → flat (a ++ b) ≡ flat a ++ flat b
 unfolding flat

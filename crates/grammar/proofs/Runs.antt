@@ -68,7 +68,7 @@ value-back : (z : ℤ) → valueOf (wholeOf z) ≡ z
 value-back (pos n) = refl
 value-back (negsuc n) = refl
 
-point-back : (p : Point) → pointOf (placeOf p) ≡ p
+pub point-back : (p : Point) → pointOf (placeOf p) ≡ p
 point-back p = ap₂ (λ x y. record { x = x; y = y }) (value-back (p .x)) (value-back (p .y))
 
 module _ (W : State) (K : Begun → State) (starts : (b : ℕ) → eqb b 32 ≡ false → step W b ≡ K (firstByte b)) (goes : (n : Begun) (b : ℕ) → isDigit b ≡ true → step (K n) b ≡ K (nextDigit n (b - 48))) where

@@ -1,120 +1,74 @@
--- What each byte adds to the three tables: the write pass is one append an event. Assumes nothing.
+-- Lists of positions, rings and polygons, one after another: their numbers, lengths, counts, and whether they are closed. Assumes nothing.
 use mathlib.Core.Path.{_≡_, refl, ap, sym, _∙_}
-use mathlib.Core.Bool.{false}
-use mathlib.Core.List.{List, [], _∷_, _++_, append-assoc, append-nil}
-use Prim.Native.Nat.{ℕ, _+_}
-use lib.IntN.{ℤ}
-use lib.ListN.{length}
+use mathlib.Core.Bool.{Bool, true, false, _&&_}
+use mathlib.Core.List.{List, [], _∷_, _++_, append-assoc}
+use Prim.Native.Nat.{ℕ, _+_, _*_}
+use native.Mathlib.Omega.{arith}
+use lib.ListN.{length, length-append}
 use Rattle.geom.specs.declared.Point.{Point}
-use Rattle.grammar.specs.Modes.{Event}
-use Rattle.grammar.specs.Modes.{Nothing, Corner, RingEnds, PolygonEnds}
+use Rattle.rules.specs.Lists.{total}
 use Rattle.grammar.specs.Grammar.{Ring, Polygon}
-use Rattle.grammar.specs.Scans.{So-far, pointOf, built}
 use Rattle.grammar.specs.Texts.{dropLast}
-use Rattle.grammar.specs.Plans.{numbersOf, ringNumbers, coordinates, ringLengths, lengths, counts, isClosed, endsAt, samePoint}
-use Rattle.grammar.proofs.Texts.{drop-last}
+use Rattle.grammar.specs.Plans.{numbersOf, ringNumbers, coordinates, ringLengths, lengths, counts, isClosed, endsAt, samePoint, allClosed, everyClosed}
 
 -- ---- appending
 
-numbers-append : (a b : Ring) → numbersOf (a ++ b) ≡ numbersOf a ++ numbersOf b
+pub numbers-append : (a b : Ring) → numbersOf (a ++ b) ≡ numbersOf a ++ numbersOf b
 unfolding numbersOf
 numbers-append [] b = refl
 numbers-append (p ∷ a) b = ap (λ s. p .x ∷ p .y ∷ s) (numbers-append a b)
 
-rings-append : (a b : List Ring) → ringNumbers (a ++ b) ≡ ringNumbers a ++ ringNumbers b
+pub rings-append : (a b : List Ring) → ringNumbers (a ++ b) ≡ ringNumbers a ++ ringNumbers b
 unfolding ringNumbers
 rings-append [] b = refl
 rings-append (r ∷ a) b = ap (λ s. numbersOf (dropLast r) ++ s) (rings-append a b) ∙ sym (append-assoc (numbersOf (dropLast r)) (ringNumbers a) (ringNumbers b))
 
-coordinates-append : (a b : List Polygon) → coordinates (a ++ b) ≡ coordinates a ++ coordinates b
+pub coordinates-append : (a b : List Polygon) → coordinates (a ++ b) ≡ coordinates a ++ coordinates b
 unfolding coordinates
 coordinates-append [] b = refl
 coordinates-append (r ∷ a) b = ap (λ s. ringNumbers r ++ s) (coordinates-append a b) ∙ sym (append-assoc (ringNumbers r) (coordinates a) (coordinates b))
 
-ring-lengths-append : (a b : List Ring) → ringLengths (a ++ b) ≡ ringLengths a ++ ringLengths b
+pub ring-lengths-append : (a b : List Ring) → ringLengths (a ++ b) ≡ ringLengths a ++ ringLengths b
 unfolding ringLengths
 ring-lengths-append [] b = refl
 ring-lengths-append (r ∷ a) b = ap (λ s. length (dropLast r) ∷ s) (ring-lengths-append a b)
 
-lengths-append : (a b : List Polygon) → lengths (a ++ b) ≡ lengths a ++ lengths b
+pub lengths-append : (a b : List Polygon) → lengths (a ++ b) ≡ lengths a ++ lengths b
 unfolding lengths
 lengths-append [] b = refl
 lengths-append (r ∷ a) b = ap (λ s. ringLengths r ++ s) (lengths-append a b) ∙ sym (append-assoc (ringLengths r) (lengths a) (lengths b))
 
-counts-append : (a b : List Polygon) → counts (a ++ b) ≡ counts a ++ counts b
+pub counts-append : (a b : List Polygon) → counts (a ++ b) ≡ counts a ++ counts b
 unfolding counts
 counts-append [] b = refl
 counts-append (r ∷ a) b = ap (λ s. length r ∷ s) (counts-append a b)
 
--- ---- the tables so far
+pub total-append : (a b : List ℕ) → total (a ++ b) ≡ total a + total b
+unfolding total
+total-append [] b = let e : total b ≡ 0 + total b = omega arith in e
+total-append (n ∷ a) b = let h = total-append a b in omega arith
 
-abbrev pub cornersSoFar : So-far → List ℤ
-cornersSoFar f = coordinates (f .done) ++ (ringNumbers (f .rings) ++ numbersOf (f .ring))
+-- ---- two numbers a corner
 
-abbrev pub lengthsSoFar : So-far → List ℕ
-lengthsSoFar f = lengths (f .done) ++ ringLengths (f .rings)
+pub numbers-twice : (ring : Ring) → length (numbersOf ring) ≡ 2 * length ring
+unfolding numbersOf
+numbers-twice [] = refl
+numbers-twice (p ∷ ring) = let h = numbers-twice ring in omega arith
 
-abbrev pub countsSoFar : So-far → List ℕ
-countsSoFar f = counts (f .done)
+pub rings-twice : (rings : Polygon) → length (ringNumbers rings) ≡ 2 * total (ringLengths rings)
+unfolding ringNumbers ringLengths total
+rings-twice [] = refl
+rings-twice (ring ∷ rings) = let h = rings-twice rings in let k = numbers-twice (dropLast ring) in let l = length-append (numbersOf (dropLast ring)) (ringNumbers rings) in omega arith
 
--- what an event adds
-abbrev pub cornersAdded : Event → List ℤ
-cornersAdded Nothing = []
-cornersAdded (Corner p) = pointOf p .x ∷ pointOf p .y ∷ []
-cornersAdded (RingEnds p) = []
-cornersAdded PolygonEnds = []
+pub coordinates-twice : (polygons : List Polygon) → length (coordinates polygons) ≡ 2 * total (lengths polygons)
+unfolding coordinates lengths total
+coordinates-twice [] = refl
+coordinates-twice (rings ∷ polygons) = let h = coordinates-twice polygons in let k = rings-twice rings in let l = length-append (ringNumbers rings) (coordinates polygons) in let m = total-append (ringLengths rings) (lengths polygons) in omega arith
 
-abbrev pub lengthsAdded : So-far → Event → List ℕ
-lengthsAdded f Nothing = []
-lengthsAdded f (Corner p) = []
-lengthsAdded f (RingEnds p) = length (f .ring) ∷ []
-lengthsAdded f PolygonEnds = []
-
-abbrev pub countsAdded : So-far → Event → List ℕ
-countsAdded f Nothing = []
-countsAdded f (Corner p) = []
-countsAdded f (RingEnds p) = []
-countsAdded f PolygonEnds = length (f .rings) ∷ []
-
-pub corners-grow : (f : So-far) (e : Event) → cornersSoFar (built f e) ≡ cornersSoFar f ++ cornersAdded e
-unfolding numbersOf ringNumbers coordinates
-corners-grow f Nothing = sym (append-nil (cornersSoFar f))
-corners-grow f (Corner p) =
-    ap (λ s. coordinates (f .done) ++ (ringNumbers (f .rings) ++ s)) (numbers-append (f .ring) (pointOf p ∷ []))
-    ∙ ap (λ s. coordinates (f .done) ++ s) (sym (append-assoc (ringNumbers (f .rings)) (numbersOf (f .ring)) (pointOf p .x ∷ pointOf p .y ∷ [])))
-    ∙ sym (append-assoc (coordinates (f .done)) (ringNumbers (f .rings) ++ numbersOf (f .ring)) (pointOf p .x ∷ pointOf p .y ∷ []))
-corners-grow f (RingEnds p) =
-    ap (λ s. coordinates (f .done) ++ (s ++ [])) (rings-append (f .rings) ((f .ring ++ (pointOf p ∷ [])) ∷ []))
-    ∙ ap (λ s. coordinates (f .done) ++ s) (append-nil (ringNumbers (f .rings) ++ (numbersOf (dropLast (f .ring ++ (pointOf p ∷ []))) ++ [])))
-    ∙ ap (λ s. coordinates (f .done) ++ (ringNumbers (f .rings) ++ s)) (append-nil (numbersOf (dropLast (f .ring ++ (pointOf p ∷ []))))
-    ∙ ap numbersOf (drop-last (f .ring) (pointOf p)))
-    ∙ sym (append-nil (cornersSoFar f))
-corners-grow f PolygonEnds =
-    ap (λ s. s ++ numbersOf (f .ring)) (coordinates-append (f .done) (f .rings ∷ []))
-    ∙ append-assoc (coordinates (f .done)) (ringNumbers (f .rings) ++ []) (numbersOf (f .ring))
-    ∙ ap (λ s. coordinates (f .done) ++ (s ++ numbersOf (f .ring))) (append-nil (ringNumbers (f .rings)))
-    ∙ sym (append-nil (cornersSoFar f))
-
-pub lengths-grow : (f : So-far) (e : Event) → lengthsSoFar (built f e) ≡ lengthsSoFar f ++ lengthsAdded f e
-unfolding ringLengths lengths
-lengths-grow f Nothing = sym (append-nil (lengthsSoFar f))
-lengths-grow f (Corner p) = sym (append-nil (lengthsSoFar f))
-lengths-grow f (RingEnds p) =
-    ap (λ s. lengths (f .done) ++ s) (ring-lengths-append (f .rings) ((f .ring ++ (pointOf p ∷ [])) ∷ []))
-    ∙ ap (λ n. lengths (f .done) ++ (ringLengths (f .rings) ++ (n ∷ []))) (ap length (drop-last (f .ring) (pointOf p)))
-    ∙ sym (append-assoc (lengths (f .done)) (ringLengths (f .rings)) (length (f .ring) ∷ []))
-lengths-grow f PolygonEnds =
-    append-nil (lengths (f .done ++ (f .rings ∷ [])))
-    ∙ lengths-append (f .done) (f .rings ∷ [])
-    ∙ ap (λ s. lengths (f .done) ++ s) (append-nil (ringLengths (f .rings)))
-    ∙ sym (append-nil (lengthsSoFar f))
-
-pub counts-grow : (f : So-far) (e : Event) → countsSoFar (built f e) ≡ countsSoFar f ++ countsAdded f e
-unfolding counts
-counts-grow f Nothing = sym (append-nil (countsSoFar f))
-counts-grow f (Corner p) = sym (append-nil (countsSoFar f))
-counts-grow f (RingEnds p) = sym (append-nil (countsSoFar f))
-counts-grow f PolygonEnds = counts-append (f .done) (f .rings ∷ [])
+pub lengths-counted : (rings : Polygon) → length (ringLengths rings) ≡ length rings
+unfolding ringLengths
+lengths-counted [] = refl
+lengths-counted (ring ∷ rings) = ap Prim.Native.Nat.suc (lengths-counted rings)
 
 -- ---- 22: a ring's first position is kept, and its last compared
 
@@ -132,3 +86,21 @@ lone-open q = refl
 pub closed-by : (p q : Point) (ring : Ring) → isClosed ((p ∷ ring) ++ (q ∷ [])) ≡ samePoint p q
 unfolding isClosed
 closed-by p q ring = ends-last p q ring
+
+pub and-assoc : (a b c : Bool) → (a && (b && c)) ≡ ((a && b) && c)
+and-assoc true b c = refl
+and-assoc false b c = refl
+
+pub and-true : (a : Bool) → (a && true) ≡ a
+and-true true = refl
+and-true false = refl
+
+pub closed-append : (a b : List Ring) → allClosed (a ++ b) ≡ (allClosed a && allClosed b)
+unfolding allClosed
+closed-append [] b = refl
+closed-append (ring ∷ a) b = ap (λ s. isClosed ring && s) (closed-append a b) ∙ and-assoc (isClosed ring) (allClosed a) (allClosed b)
+
+pub every-append : (a b : List Polygon) → everyClosed (a ++ b) ≡ (everyClosed a && everyClosed b)
+unfolding everyClosed
+every-append [] b = refl
+every-append (rings ∷ a) b = ap (λ s. allClosed rings && s) (every-append a b) ∙ and-assoc (allClosed rings) (everyClosed a) (everyClosed b)

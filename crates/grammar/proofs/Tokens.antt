@@ -3,6 +3,7 @@ use mathlib.Core.Path.{_≡_, refl, sym, ap, _∙_}
 use mathlib.Core.Bool.{Bool, true, false, cond}
 use mathlib.Core.List.{List}
 use Prim.Native.Nat.{ℕ, zero, suc, _+_, _-_, _*_, _^_, _≤_, _<_}
+use native.Mathlib.Decide.{decLt}
 use native.Mathlib.Omega.{arith}
 use lib.IntN.{ℤ, pos}
 use lib.ListN.{length, getD}
@@ -18,25 +19,27 @@ use Rattle.grammar.proofs.Steps.{leads, leaves, stops-early, space-skip
 
 -- ---- spaces
 
-pub none-skipped : (text : List ℕ) (at : ℕ) → at ≤ length text → (at < length text → getD text at 0 ≡ 32 → ⊥) → Skipped text at at
-none-skipped text at h s = record { on = omega arith; inside = h; stops = s; same = λ mode f r. refl }
-
 -- the spaces so far
 pub record Skipping (text : List ℕ) (at place : ℕ) : Type 0 where
   pub on : at ≤ place
   pub inside : place ≤ length text
+  pub spaces : (before : ℕ) → at ≤ before → before < place → getD text before 0 ≡ 32
   pub same : (mode : Mode) (f : So-far) → Resting mode → readFrom text at mode f ≡ readFrom text place mode f
 
 pub skipping : (text : List ℕ) (at : ℕ) → at ≤ length text → Skipping text at at
-skipping text at h = record { on = omega arith; inside = h; same = λ mode f r. refl }
+skipping text at h = record { on = omega arith; inside = h; spaces = λ k l m. absurd (omega arith); same = λ mode f r. refl }
 
 pub skipped-on : (text : List ℕ) (at place : ℕ) → Skipping text at place → place < length text → getD text place 0 ≡ 32 → Skipping text at (place + 1)
 skipped-on text at place g h b =
     let o = g .on in
-    record { on = omega arith; inside = omega arith; same = λ mode f r. g .same mode f r ∙ space-skipped text place mode f h b r }
+    record { on = omega arith; inside = omega arith; spaces = λ k l m. go k l m (decLt k place); same = λ mode f r. g .same mode f r ∙ space-skipped text place mode f h b r }
+  where
+    go : (k : ℕ) → at ≤ k → k < place + 1 → Dec (k < place) → getD text k 0 ≡ 32
+    go k l m (yes n) = g .spaces k l n
+    go k l m (no n) = ap (λ i. getD text i 0) (let e : k ≡ place = omega arith in e) ∙ b
 
 pub skipped : (text : List ℕ) (at place : ℕ) → Skipping text at place → (place < length text → getD text place 0 ≡ 32 → ⊥) → Skipped text at place
-skipped text at place g s = record { on = g .on; inside = g .inside; stops = s; same = g .same }
+skipped text at place g s = record { on = g .on; inside = g .inside; spaces = g .spaces; stops = s; same = g .same }
 
 -- ---- numbers and pairs
 

@@ -2,8 +2,8 @@
 use mathlib.Core.Bool.{Bool, true, false, _&&_}
 use mathlib.Core.List.{List, [], _∷_, _++_}
 use Prim.Native.Nat.{ℕ, _+_}
-use lib.IntN.{ℤ}
-use lib.Signed.{leZ}
+use lib.Dec.{eqb}
+use lib.IntN.{ℤ, pos, negsuc}
 use lib.ListN.{length}
 use Rattle.geom.specs.declared.Point.{Point}
 use Rattle.rules.specs.declared.Kind.the-variants.{Polygons}
@@ -11,8 +11,14 @@ use Rattle.rules.specs.Plans.{Plan}
 use Rattle.grammar.specs.Grammar.{Ring, Polygon}
 use Rattle.grammar.specs.Texts.{dropLast}
 
+abbrev pub sameNumber : ℤ → ℤ → Bool
+sameNumber (pos m) (pos n) = eqb m n
+sameNumber (pos m) (negsuc n) = false
+sameNumber (negsuc m) (pos n) = false
+sameNumber (negsuc m) (negsuc n) = eqb m n
+
 abbrev pub samePoint : Point → Point → Bool
-samePoint p q = leZ (p .x) (q .x) && leZ (q .x) (p .x) && leZ (p .y) (q .y) && leZ (q .y) (p .y)
+samePoint p q = sameNumber (p .x) (q .x) && sameNumber (p .y) (q .y)
 
 -- whether the last of these positions is p
 unfoldable pub endsAt : Point → Ring → Bool

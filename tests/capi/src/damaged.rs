@@ -9,9 +9,11 @@ use crate::entry::locate_text;
 use crate::expected;
 use crate::exports::{self, Correctable, Handed, Lent, Shown, State};
 use crate::guard::{Guarded, Side};
+use crate::lent::GuardedPlan;
 use crate::prepared::{Prepared, Tables};
 use crate::reader::LONGEST;
 use crate::soundness;
+use crate::wkt::{self, trials::Writings};
 use crate::writer;
 use plans::generate::{self, Case, Size};
 use plans::model::Call;
@@ -145,9 +147,7 @@ pub struct Memory {
     edges: Guarded<usize>,
     undo: Guarded<[i64; 3]>,
     points: Guarded<i64>,
-    coordinates: Guarded<i64>,
-    lengths: Guarded<usize>,
-    counts: Guarded<usize>,
+    plan: GuardedPlan,
     text: Guarded<u8>,
 }
 
@@ -162,9 +162,7 @@ impl Default for Memory {
             edges: Guarded::new(MOST_ENTRIES),
             undo: Guarded::new(MOST_ENTRIES),
             points: Guarded::new(MOST_ENTRIES),
-            coordinates: Guarded::new(2 * MOST_CORNERS + 8),
-            lengths: Guarded::new(MOST_ENTRIES),
-            counts: Guarded::new(MOST_ENTRIES),
+            plan: GuardedPlan::default(),
             text: Guarded::new(LONGEST + 8),
         }
     }
@@ -216,6 +214,7 @@ impl Trial {
 pub struct Trials {
     seed: u64,
     memory: Memory,
+    writings: Writings,
     side: Side,
     /// Whether what is only shown is kept from being written. It takes long, and so is done in some trials; in all of them the tables are
     /// compared.
@@ -229,6 +228,7 @@ impl Trials {
         Trials {
             seed,
             memory: Memory::default(),
+            writings: Writings::default(),
             side: Side::After,
             forbid: true,
             base: None,
@@ -377,7 +377,7 @@ impl Trials {
         self.answers.add(*sort, name, corrected.refusal as i64);
     }
 
-    /// Prepares a plan of damaged lists, in tables of any length.
+    /// Prepares a plan of damaged lists, in tables of any length, and writes it.
     fn try_plan(&mut self, random: &mut Random, number: usize) {
         let (_, case, prepared) = self.base(number);
         let (mut plan, mut tables) = (case.plan.clone(), prepared.tables.clone());
@@ -390,18 +390,16 @@ impl Trials {
         }
         let (memory, side) = (&mut self.memory, self.side);
         memory.hold(&tables, side);
-        memory.coordinates.hold(&plan.coordinates, side);
-        memory.lengths.hold(&plan.ring_lengths, side);
-        memory.counts.hold(&plan.ring_counts, side);
+        memory.plan.hold(&plan, side);
         if self.forbid {
-            memory.set_plan(true);
+            memory.plan.forbid_writing(true);
         }
         let (handed, lent) = memory.handed(kind);
         let preparing = exports::prepare(handed, lent);
         if self.forbid {
-            memory.set_plan(false);
+            memory.plan.forbid_writing(false);
         }
-        assert!(memory.holds_plan(&plan), "the plan handed in was written");
+        assert!(memory.plan.holds(&plan), "the plan handed in was written");
         let (refusal, table, nodes) = due::preparing(kind, &plan, &tables);
         assert_eq!(
             (preparing.refusal, preparing.table, preparing.nodes),
@@ -411,6 +409,18 @@ impl Trials {
             assert!(memory.holds(&tables), "a refusal wrote");
         }
         self.answers.add(Sort::Plan, "prepare", refusal as i64);
+        self.write_plan(random, kind, &plan);
+    }
+
+    /// Writes a plan as Well-Known Text, to an output of any length.
+    fn write_plan(&mut self, random: &mut Random, kind: u64, plan: &Plan) {
+        let whole = wkt::due_writing(kind, plan, usize::MAX);
+        let mut output = whole.unwrap_or_default();
+        resize(random, &mut output, 0);
+        self.writings.forbid = self.forbid;
+        let written = self.writings.write(kind, plan, output.len(), self.side);
+        let refusal = written.map_or_else(|(refusal, _)| refusal, |_| 0);
+        self.answers.add(Sort::Plan, "write_wkt", refusal as i64);
     }
 
     /// Asks a point of damaged text, or of any bytes.
@@ -488,13 +498,6 @@ impl Memory {
             && (call != Call::Undo || self.undo.as_slice() == tables.undo)
     }
 
-    /// Whether the plan handed in is as it was held.
-    fn holds_plan(&self, plan: &Plan) -> bool {
-        self.coordinates.as_slice() == plan.coordinates
-            && self.lengths.as_slice() == plan.ring_lengths
-            && self.counts.as_slice() == plan.ring_counts
-    }
-
     /// Keeps the tables from being written, or no longer.
     fn set_tables(&self, forbid: bool) {
         self.corners.forbid_writing(forbid);
@@ -504,13 +507,6 @@ impl Memory {
         self.parts.forbid_writing(forbid);
         self.edges.forbid_writing(forbid);
         self.points.forbid_writing(forbid);
-    }
-
-    /// The same of the plan handed in.
-    fn set_plan(&self, forbid: bool) {
-        self.coordinates.forbid_writing(forbid);
-        self.lengths.forbid_writing(forbid);
-        self.counts.forbid_writing(forbid);
     }
 
     fn shown(&self) -> Shown<'_> {
@@ -536,12 +532,7 @@ impl Memory {
     }
 
     fn handed(&mut self, kind: u64) -> (Handed<'_>, Lent<'_>) {
-        let handed = Handed {
-            kind,
-            coordinates: self.coordinates.as_slice(),
-            lengths: self.lengths.as_slice(),
-            counts: self.counts.as_slice(),
-        };
+        let handed = self.plan.handed(kind);
         let lent = Lent {
             corners: self.corners.as_mut_slice(),
             rings: self.rings.as_mut_slice(),

@@ -15,10 +15,10 @@ pub const TREE: &[u8] = b"plan\ttree\n\
 /// In the hole, on its edge, between it and the outer ring; in the triangle, on its corner, beside it.
 pub const POINTS: [Point; 6] = [(5, 5), (4, 5), (1, 5), (4, 3), (-1, -1), (-2, 0)];
 
-/// Well-Known Texts: a square with a square hole, in brackets and spaces of every sort, and the shortest ones.
+/// Well-Known Texts with brackets, spaces, signs, words and numbers of every sort.
 pub const WKT: [&[u8]; 4] = [
     b"POLYGON ((0 0, 10 0, 10 10, 0 10, 0 0), (4 4, 6 4, 6 -6, 4 4))",
     b"MULTIPOLYGON( ((-1 0,8 0,-1 0)) ,EMPTY , ((7 7, 7  7) ) ) ",
-    b"POLYGON((9223372036854775807 -9223372036854775808,9223372036854775807 -9223372036854775808))",
+    b"POLYGON((0 0,9223372036854775807 -9223372036854775808,0 0))",
     b"MULTIPOLYGON EMPTY",
 ];

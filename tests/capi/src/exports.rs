@@ -1,7 +1,7 @@
 //! The exports for prepared plans, as the static library has them: a state of six numbers, and tables as slices that the caller lends.
 
 use plans::model::Call;
-use plans::plan::{Mode, Point, Query};
+use plans::plan::{Mode, Plan, Point, Query};
 
 /// The numbers that a caller keeps of a prepared plan beside its tables.
 #[repr(C)]
@@ -76,6 +76,18 @@ pub struct Handed<'a> {
     pub coordinates: &'a [i64],
     pub lengths: &'a [usize],
     pub counts: &'a [usize],
+}
+
+impl Handed<'_> {
+    /// A plan as one of its own kind.
+    pub fn of(plan: &Plan) -> Handed<'_> {
+        Handed {
+            kind: plan.kind as u64,
+            coordinates: &plan.coordinates,
+            lengths: &plan.ring_lengths,
+            counts: &plan.ring_counts,
+        }
+    }
 }
 
 /// Tables that preparing writes.

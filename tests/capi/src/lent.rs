@@ -1,10 +1,63 @@
-//! Trials of an export that reads a text into lent tables: in guarded memory, with room and without, against a reader written apart from it.
+//! What is lent in guarded memory: a plan that is handed in, and a text with the tables that it is read into. Trials of an export that reads
+//! a text, with room and without, against a reader written apart from it.
 
+use crate::due::{MOST_CORNERS, MOST_RINGS};
+use crate::exports::Handed;
 use crate::guard::{self, Guarded, Side};
 use crate::reader::LONGEST;
 use crate::reading::{Judged, Reading, due, needed};
+use plans::plan::Plan;
 use std::collections::BTreeMap;
 use std::fmt::Debug;
+
+/// A plan that is handed in, which may be too large by a few entries.
+pub struct GuardedPlan {
+    coordinates: Guarded<i64>,
+    lengths: Guarded<usize>,
+    counts: Guarded<usize>,
+}
+
+impl Default for GuardedPlan {
+    fn default() -> GuardedPlan {
+        GuardedPlan {
+            coordinates: Guarded::new(2 * MOST_CORNERS + 8),
+            lengths: Guarded::new(MOST_RINGS + 8),
+            counts: Guarded::new(MOST_RINGS + 8),
+        }
+    }
+}
+
+impl GuardedPlan {
+    pub fn hold(&mut self, plan: &Plan, side: Side) {
+        self.coordinates.hold(&plan.coordinates, side);
+        self.lengths.hold(&plan.ring_lengths, side);
+        self.counts.hold(&plan.ring_counts, side);
+    }
+
+    /// Whether the plan is as it was held.
+    pub fn holds(&self, plan: &Plan) -> bool {
+        self.coordinates.as_slice() == plan.coordinates
+            && self.lengths.as_slice() == plan.ring_lengths
+            && self.counts.as_slice() == plan.ring_counts
+    }
+
+    /// Keeps the plan from being written, or no longer.
+    pub fn forbid_writing(&self, forbid: bool) {
+        self.coordinates.forbid_writing(forbid);
+        self.lengths.forbid_writing(forbid);
+        self.counts.forbid_writing(forbid);
+    }
+
+    /// The plan as one of this kind.
+    pub fn handed(&self, kind: u64) -> Handed<'_> {
+        Handed {
+            kind,
+            coordinates: self.coordinates.as_slice(),
+            lengths: self.lengths.as_slice(),
+            counts: self.counts.as_slice(),
+        }
+    }
+}
 
 /// No thousand calls take so many seconds.
 const SECONDS: u32 = 120;
@@ -17,6 +70,8 @@ pub type Read = fn(&[u8], &mut [i64], &mut [usize], &mut [usize]) -> Reading;
 
 /// Guarded memory for a text and its tables, and how often each refusal came up with its table.
 pub struct Trials {
+    /// Whether the text, and tables that are to stay as they are, are kept from being written. It takes long; without it they are compared.
+    pub forbid: bool,
     read: Read,
     text: Guarded<u8>,
     corners: Guarded<i64>,
@@ -30,6 +85,7 @@ impl Trials {
     pub fn new(read: Read) -> Trials {
         guard::watch(SECONDS);
         Trials {
+            forbid: true,
             read,
             text: Guarded::new(LONGEST + 1),
             corners: Guarded::new(LONGEST),
@@ -40,7 +96,7 @@ impl Trials {
         }
     }
 
-    /// Holds a text against one of its pages, the other one in each trial, and lets nobody write it.
+    /// Holds a text against one of its pages, the other one in each trial, and lets nobody write it, unless that is left out.
     pub fn hold(&mut self, text: &[u8]) -> Side {
         self.number += 1;
         guard::trying(self.number, SECONDS);
@@ -50,7 +106,7 @@ impl Trials {
         };
         self.text.forbid_writing(false);
         self.text.hold(text, side);
-        self.text.forbid_writing(true);
+        self.text.forbid_writing(self.forbid);
         side
     }
 
@@ -79,7 +135,7 @@ impl Trials {
         self.corners.hold(&vec![UNREAD as i64; room[0]], side);
         self.lengths.hold(&vec![UNREAD; room[1]], side);
         self.counts.hold(&vec![UNREAD; room[2]], side);
-        self.forbid_tables(answer.refusal > 0);
+        self.forbid_tables(self.forbid && answer.refusal > 0);
         let given = (self.read)(
             self.text.as_slice(),
             self.corners.as_mut_slice(),
@@ -88,6 +144,7 @@ impl Trials {
         );
         self.forbid_tables(false);
         assert_eq!(given, answer, "{room:?}: {}", text.escape_ascii());
+        assert!(self.text.as_slice() == text, "the text was written");
         let plan = judged.as_ref().ok().filter(|_| answer.refusal == 0);
         let plan = plan.map(|plan| (&*plan.coordinates, &*plan.ring_lengths, &*plan.ring_counts));
         let (corners, lengths, counts) = plan.unwrap_or_default();

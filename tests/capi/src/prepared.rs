@@ -51,9 +51,7 @@ impl Tables {
     pub fn prepare_as(&mut self, kind: u64, plan: &Plan) -> Preparing {
         let handed = Handed {
             kind,
-            coordinates: &plan.coordinates,
-            lengths: &plan.ring_lengths,
-            counts: &plan.ring_counts,
+            ..Handed::of(plan)
         };
         let lent = Lent {
             corners: &mut self.corners,

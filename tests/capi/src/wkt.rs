@@ -9,6 +9,7 @@ use plans::plan::{Kind, Plan};
 
 pub mod damage;
 pub mod reader;
+pub mod trials;
 pub mod writer;
 
 /// What reading answers: the refusal number or 0, the place or table that it names, and the plan's counts.
@@ -85,6 +86,25 @@ pub fn read_wkt(
     }
 }
 
+/// The plan of a text as the library reads it, or the refusal number and its detail. No text has more numbers than bytes.
+pub fn read_plan(text: &[u8]) -> Judged {
+    let room = text.len();
+    let (mut corners, mut lengths, mut counts) = (vec![0; room], vec![0; room], vec![0; room]);
+    let answer = read_wkt(text, &mut corners, &mut lengths, &mut counts);
+    if answer.refusal > 0 {
+        return Err((answer.refusal, answer.detail));
+    }
+    corners.truncate(2 * answer.corners as usize);
+    lengths.truncate(answer.rings as usize);
+    counts.truncate(answer.polygons as usize);
+    Ok(Plan {
+        kind: Kind::List,
+        coordinates: corners,
+        ring_lengths: lengths,
+        ring_counts: counts,
+    })
+}
+
 /// Writes a plan to the output that is lent.
 pub fn write_wkt(plan: Handed, output: &mut [u8]) -> Writing {
     // SAFETY: each pointer and length are those of one slice, which outlives the call; no two of them overlap where one is written.
@@ -125,6 +145,10 @@ pub fn due_writing(kind: u64, plan: &Plan, room: usize) -> Result<Vec<u8>, (u64,
         0 if !list || plan.ring_lengths.contains(&0) => return Err((22, 0)),
         0 => {}
         refusal => return Err((refusal, 0)),
+    }
+    // A corner is four bytes at least: nothing is gained by writing millions of them.
+    if plan.coordinates.len() / 2 > LONGEST / 4 {
+        return Err((1, 0));
     }
     let text = writer::write(plan);
     if text.len() > LONGEST {

@@ -14,13 +14,14 @@ const TRIALS: usize = 5_000;
 const SECONDS: u32 = 120;
 
 /// The answers of each call that have to come up.
-const ANSWERS: [(&str, &[i64]); 7] = [
+const ANSWERS: [(&str, &[i64]); 8] = [
     ("locate", &[0, 1, 2, -15]),
     ("locate_by_rings", &[0, 1, 2, -15]),
     ("first_not_outside", &[-1, 0, 3, 4, 15]),
     ("move", &[0, 5, 6, 12, 13, 15]),
     ("undo", &[0, 12, 14, 15]),
     ("prepare", &[0, 3, 4, 11, 15]),
+    ("write_wkt", &[0, 3, 4, 11, 15, 22]),
     ("locate_text", &[0, 1, 2, -1, -2]),
 ];
 

@@ -33,11 +33,16 @@ fn every_spelling_of_a_plan_is_read_as_that_plan() {
     }
 }
 
+/// The longest text that is tried from its start to each of its bytes.
+const LONG: usize = 400;
+
 /// Each beginning of a text is one, and a text that ends early gets its length.
 #[test]
 fn every_part_of_a_text_from_its_start_on_begins_a_text() {
-    for (mut random, plan) in plans().step_by(50) {
-        for text in spellings(&mut random, &plan) {
+    for (mut random, plan) in plans() {
+        let mut texts = spellings(&mut random, &plan);
+        texts.retain(|text| text.len() < LONG);
+        for text in texts {
             let last = text.iter().rposition(|&byte| byte != b' ');
             let last = last.expect("a text has a word");
             for end in 0..=text.len() {

@@ -11,6 +11,7 @@ use capi::wkt::reader::{Refusal, begins, is_text, opened};
 use capi::wkt::writer::{spellings, writable};
 use capi::wkt::{judged, numbers, read_wkt};
 use plans::generate::{self, SEED, Size};
+use plans::plan::Plan;
 use plans::random::Random;
 use std::collections::BTreeMap;
 
@@ -67,14 +68,9 @@ impl Exhausted {
         .map_err(numbers);
         let room = [self.corners.len(), self.lengths.len(), self.counts.len()];
         let answer = due(&judged, room);
-        let given = read_wkt(
-            text,
-            &mut self.corners,
-            &mut self.lengths,
-            &mut self.counts,
-        );
+        let given = read_wkt(text, &mut self.corners, &mut self.lengths, &mut self.counts);
         assert_eq!(given, answer, "{}", text.escape_ascii());
-        let plan = judged.unwrap_or(plans::plan::Plan::list(&[]));
+        let plan = judged.unwrap_or(Plan::list(&[]));
         assert_starts_with(&self.corners, &plan.coordinates, UNREAD as i64);
         assert_starts_with(&self.lengths, &plan.ring_lengths, UNREAD);
         assert_starts_with(&self.counts, &plan.ring_counts, UNREAD);
@@ -97,41 +93,50 @@ impl Exhausted {
 /// The bytes of a ring.
 const BYTES: &[&str] = &["(", ")", ",", " ", "0", "1", "-"];
 
+/// Of the grammar are `(x y))` with one digit each (4), with two bytes for x or for y (12), and with one space more in one of six places (24):
+/// each has one position.
 #[test]
 fn every_text_of_seven_bytes_behind_polygon() {
-    Exhausted::of("POLYGON(", BYTES, 7).assert_counts(0, 0, 960_800);
+    Exhausted::of("POLYGON(", BYTES, 7).assert_counts(0, 40, 960_800);
 }
 
-/// Six bytes can close a ring that has a position.
+/// Of the grammar are, behind a comma, `x y))` as above, with a space more in one of five places: 36 in all, of which 6 come back to 0 0. Behind
+/// a second position, brackets and up to four spaces (35), digits more and then these (128), and a third position (4).
 #[test]
 fn every_text_of_six_bytes_behind_a_position() {
-    Exhausted::of("POLYGON((0 0,", BYTES, 6).assert_counts(0, 0, 137_257);
-    Exhausted::of("POLYGON((0 -1, 0 -1", BYTES, 6).assert_counts(0, 0, 137_257);
+    Exhausted::of("POLYGON((0 0,", BYTES, 6).assert_counts(6, 30, 137_257);
+    Exhausted::of("POLYGON((0 -1, 0 -1", BYTES, 6).assert_counts(35, 132, 137_257);
 }
 
+/// The shortest end of the grammar, `EMPTY)`, has six bytes.
 #[test]
 fn every_text_of_five_bytes_behind_multipolygon() {
     const WITH_E: &[&str] = &["(", ")", ",", " ", "0", "1", "-", "E"];
     Exhausted::of("MULTIPOLYGON(", WITH_E, 5).assert_counts(0, 0, 37_449);
 }
 
-/// Words and members in every order.
+/// Words and members in every order. Of the grammar are, with as many spaces as are left, up to three `EMPTY` (57), one polygon of one ring (21
+/// of each) or of two (4), and an `EMPTY` before or behind one (2 of each); and behind the words, `POLYGON` with `EMPTY` (4) or a polygon (15),
+/// `MULTIPOLYGON` with `EMPTY` (3), or with that or a polygon in brackets (5 of each).
 #[test]
 fn every_text_of_six_pieces() {
     const MEMBERS: &[&str] = &["(", ")", ",", " ", "EMPTY", "(0 0,0 0)", "(1 1,0 0)"];
-    Exhausted::of("MULTIPOLYGON(", MEMBERS, 6).assert_counts(0, 0, 137_257);
+    Exhausted::of("MULTIPOLYGON(", MEMBERS, 6).assert_counts(81, 26, 137_257);
     const WORDS: &[&str] = &["POLYGON", "MULTI", "EMPTY", " ", "(", ")", "((0 0,0 0))"];
-    Exhausted::of("", WORDS, 6).assert_counts(0, 0, 137_257);
+    Exhausted::of("", WORDS, 6).assert_counts(32, 0, 137_257);
 }
 
+/// All texts one byte away from an example, and the example cut at each place.
 #[test]
 fn a_byte_changed_put_in_or_left_out() {
     let mut trials = Trials::new(read_wkt);
     for example in WKT {
-        let judged_example = judged(example);
-        trials.read_with_all_room(example, &judged_example);
-        let room = judged_example.as_ref().map(needed).expect("a plan");
-        for text in one_byte_away(example) {
+        let found = judged(example);
+        trials.read_with_all_room(example, &found);
+        let room = found.as_ref().map(needed).expect("a plan");
+        trials.forbid = false;
+        let cut = (0..example.len()).map(|end| example[..end].to_vec());
+        for text in cut.chain(one_byte_away(example)) {
             trials.read(&text, &judged(&text), room);
         }
     }
@@ -149,13 +154,22 @@ const SIZE: Size = Size {
     rings: 12,
 };
 
-/// Each spelling of a plan with room and without, then as it is damaged in each way.
+/// Every so many plans one is larger: a number that shares no divisor with that of the families.
+const LARGER_EVERY: usize = 25;
+const LARGER_SIZE: Size = Size {
+    corners: 600,
+    rings: 60,
+};
+
+/// Each spelling of a plan with room and without, and then damaged in one of the ways.
 #[test]
 fn generated_and_damaged_texts() {
     let mut trials = Trials::new(read_wkt);
     for number in 0..PLANS {
         let random = &mut Random::new(SEED, number as u64);
-        let plan = writable(&generate::plan(random, number, SIZE));
+        let larger = number.is_multiple_of(LARGER_EVERY);
+        let size = if larger { LARGER_SIZE } else { SIZE };
+        let plan = writable(&generate::plan(random, number, size));
         for text in spellings(random, &plan) {
             trials.read_with_all_room(&text, &Ok(plan.clone()));
             let damaged = random.pick(&WAYS)(random, &text);
@@ -188,8 +202,18 @@ fn the_largest_plans() {
     let mut trials = Trials::new(read_wkt);
     for (start, piece, end, most) in [
         ("POLYGON((0 0", ",0 0", "))", [2 * 16_380, 1, 1]),
-        ("POLYGON((0 0,0 0)", ",(0 0,0 0)", ")", [2 * 6_552, 6_552, 1]),
-        ("MULTIPOLYGON(((0 0,0 0))", ",((0 0,0 0))", ")", [2 * 5_460, 5_460, 5_460]),
+        (
+            "POLYGON((0 0,0 0)",
+            ",(0 0,0 0)",
+            ")",
+            [2 * 6_552, 6_552, 1],
+        ),
+        (
+            "MULTIPOLYGON(((0 0,0 0))",
+            ",((0 0,0 0))",
+            ")",
+            [2 * 5_460, 5_460, 5_460],
+        ),
         ("MULTIPOLYGON(EMPTY", ",EMPTY", ")", [0, 0, 0]),
     ] {
         let times = (LONGEST - start.len() - end.len()) / piece.len();

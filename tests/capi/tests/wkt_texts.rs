@@ -160,10 +160,22 @@ const READ: &[(&str, Corners)] = &[
     // R-1's own, and the styles of GEOS and JTS, of PostGIS, and of shapely.
     ("POLYGON ((0 0, 10 0, 10 10, 0 0))", &[&[S]]),
     ("POLYGON((0 0,10 0,10 10,0 0))", &[&[S]]),
-    ("POLYGON ((0 0, 10 0, 10 10, 0 0), (4 2, 6 2, 6 3, 4 3, 4 2))", &[&[S, H]]),
-    ("POLYGON((0 0,10 0,10 10,0 0),(4 2,6 2,6 3,4 3,4 2))", &[&[S, H]]),
-    ("MULTIPOLYGON (((0 0, 10 0, 10 10, 0 0)), ((4 2, 6 2, 6 3, 4 3, 4 2)))", &[&[S], &[H]]),
-    ("MULTIPOLYGON(((0 0,10 0,10 10,0 0),(4 2,6 2,6 3,4 3,4 2)),((0 0,0 0)))", &[&[S, H], &[ONE]]),
+    (
+        "POLYGON ((0 0, 10 0, 10 10, 0 0), (4 2, 6 2, 6 3, 4 3, 4 2))",
+        &[&[S, H]],
+    ),
+    (
+        "POLYGON((0 0,10 0,10 10,0 0),(4 2,6 2,6 3,4 3,4 2))",
+        &[&[S, H]],
+    ),
+    (
+        "MULTIPOLYGON (((0 0, 10 0, 10 10, 0 0)), ((4 2, 6 2, 6 3, 4 3, 4 2)))",
+        &[&[S], &[H]],
+    ),
+    (
+        "MULTIPOLYGON(((0 0,10 0,10 10,0 0),(4 2,6 2,6 3,4 3,4 2)),((0 0,0 0)))",
+        &[&[S, H], &[ONE]],
+    ),
     ("MULTIPOLYGON (((0 0, 10 0, 10 10, 0 0)), EMPTY)", &[&[S]]),
     // An EMPTY member adds no polygon, wherever it stands.
     ("POLYGON EMPTY", &[]),
@@ -173,15 +185,30 @@ const READ: &[(&str, Corners)] = &[
     ("MULTIPOLYGON(EMPTY)", &[]),
     ("MULTIPOLYGON ( EMPTY ) ", &[]),
     ("MULTIPOLYGON(EMPTY,EMPTY , EMPTY)", &[]),
-    ("MULTIPOLYGON(EMPTY,((0 0,0 0)),EMPTY,((4 2,6 2,6 3,4 3,4 2)))", &[&[ONE], &[H]]),
+    (
+        "MULTIPOLYGON(EMPTY,((0 0,0 0)),EMPTY,((4 2,6 2,6 3,4 3,4 2)))",
+        &[&[ONE], &[H]],
+    ),
     // Spaces round brackets and commas, and between numbers.
-    ("POLYGON  (  (  0   0  ,  10  0  ,  10 10  ,  0  0  )  )  ", &[&[S]]),
-    ("POLYGON( (0 0,10 0,10 10,0 0) ,(4 2,6 2,6 3,4 3,4 2))   ", &[&[S, H]]),
-    ("MULTIPOLYGON  ( ( ( 0 0 , 0 0 ) ) , EMPTY , ( ( 0 0,0 0 ) ) ) ", &[&[ONE], &[ONE]]),
+    (
+        "POLYGON  (  (  0   0  ,  10  0  ,  10 10  ,  0  0  )  )  ",
+        &[&[S]],
+    ),
+    (
+        "POLYGON( (0 0,10 0,10 10,0 0) ,(4 2,6 2,6 3,4 3,4 2))   ",
+        &[&[S, H]],
+    ),
+    (
+        "MULTIPOLYGON  ( ( ( 0 0 , 0 0 ) ) , EMPTY , ( ( 0 0,0 0 ) ) ) ",
+        &[&[ONE], &[ONE]],
+    ),
     // The last position alone is dropped: a ring may have one corner, equal corners, and a last corner equal to its first.
     ("POLYGON((0 0,0 0))", &[&[ONE]]),
     ("POLYGON((0 0,0 0,0 0))", &[&[&[(0, 0), (0, 0)]]]),
-    ("POLYGON((0 0,1 0,0 0,0 0))", &[&[&[(0, 0), (1, 0), (0, 0)]]]),
+    (
+        "POLYGON((0 0,1 0,0 0,0 0))",
+        &[&[&[(0, 0), (1, 0), (0, 0)]]],
+    ),
     ("POLYGON((0 0,-1 -10,0 0))", &[&[&[(0, 0), (-1, -10)]]]),
     (
         "POLYGON((-9223372036854775808 9223372036854775807,9223372036854775807 -9223372036854775808,-9223372036854775808 9223372036854775807))",

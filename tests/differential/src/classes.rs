@@ -21,10 +21,11 @@ impl Classes {
         self.counts[query.mode as usize][kind as usize][ray as usize][usize::from(reply)] += 1;
     }
 
-    /// How often the rarest class came up.
-    pub fn rarest(&self) -> u64 {
-        let counts = self.counts.as_flattened().as_flattened().as_flattened();
-        counts.iter().copied().min().unwrap_or_default()
+    /// How often the rarest class of plans of a kind came up.
+    pub fn rarest(&self, kind: Kind) -> u64 {
+        let of_kind = self.counts.iter().map(|kinds| &kinds[kind as usize]);
+        let counts = of_kind.flatten().flatten();
+        counts.copied().min().unwrap_or_default()
     }
 }
 
@@ -69,6 +70,8 @@ pub struct Tally {
     pub by_rings: u64,
     /// Lists of points whose first that is not outside was asked.
     pub lists: u64,
+    /// Well-Known Texts that were read.
+    pub texts: u64,
     /// Answers to corrections, by refusal number, 0 where accepted.
     pub corrections: BTreeMap<u64, u64>,
     /// How often all moves were undone and the tables were those first prepared.
@@ -117,6 +120,7 @@ impl AddAssign<&Tally> for Tally {
         self.replies += other.replies;
         self.by_rings += other.by_rings;
         self.lists += other.lists;
+        self.texts += other.texts;
         for (&number, &count) in &other.corrections {
             *self.corrections.entry(number).or_default() += count;
         }
@@ -134,6 +138,9 @@ impl Display for Tally {
             "{} plans, {} replies, {} ring by ring, {} lists",
             self.plans, self.replies, self.by_rings, self.lists
         )?;
+        if self.texts > 0 {
+            write!(f, ", {} texts", self.texts)?;
+        }
         if !self.corrections.is_empty() {
             let total: u64 = self.corrections.values().sum();
             write!(f, ", {total} corrections")?;

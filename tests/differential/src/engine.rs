@@ -1,6 +1,8 @@
 //! Engines whose answers are compared with the original's: the proved one, and stand-ins that try the comparison.
 
 use capi::prepared::Prepared;
+use capi::reading::Judged;
+use capi::wkt;
 use plans::model::Call;
 use plans::plan::Query;
 
@@ -19,6 +21,11 @@ pub trait Engine {
     /// The first point, of a list x, y, x, y, .., that is not outside, or the refusal number.
     fn first_not_outside(&self, prepared: &Prepared, points: &[i64]) -> Result<Option<usize>, u64> {
         prepared.first_not_outside(points)
+    }
+
+    /// The plan of a Well-Known Text, or the number by which it is refused and its detail.
+    fn read_wkt(&self, text: &[u8]) -> Judged {
+        wkt::read_plan(text)
     }
 
     /// Makes a correction, or gives the number by which it is refused.

@@ -3,6 +3,8 @@
 use crate::engine::Engine;
 use crate::runs::{Failure, Mode, Portion};
 use capi::prepared::{Prepared, Tables};
+use capi::reading::Judged;
+use capi::wkt;
 use plans::model::{Call, Model};
 use plans::plan::{self, Kind, Plan, Query};
 use std::collections::BTreeMap;
@@ -19,10 +21,12 @@ pub enum Fault {
     ClosingEdgeLost,
     BoxesNeverNarrowed,
     UndoOneEarly,
+    LastPositionKept,
+    RingsTurned,
 }
 
 /// All faults.
-pub const FAULTS: [Fault; 9] = [
+pub const FAULTS: [Fault; 11] = [
     Fault::ParityOnBothGrids,
     Fault::HolesAsASet,
     Fault::RimBoxesSkipped,
@@ -32,7 +36,16 @@ pub const FAULTS: [Fault; 9] = [
     Fault::ClosingEdgeLost,
     Fault::BoxesNeverNarrowed,
     Fault::UndoOneEarly,
+    Fault::LastPositionKept,
+    Fault::RingsTurned,
 ];
+
+impl Fault {
+    /// Whether it is one of reading texts, so that no part shows it in which none is read.
+    fn is_in_reading(self) -> bool {
+        matches!(self, Fault::LastPositionKept | Fault::RingsTurned)
+    }
+}
 
 /// The double, with a fault or with none.
 pub struct Double {
@@ -40,16 +53,22 @@ pub struct Double {
 }
 
 /// The parts of the comparison that are tried on a fault, with so many plans each.
-const TRIED: [(Mode, usize); 3] = [
+const TRIED: [(Mode, usize); 4] = [
     (Mode::Small, 10_000),
     (Mode::Random, 1_500),
     (Mode::Moves, 150),
+    (Mode::Wkt, 42),
 ];
 
 /// What a comparison with a double finds first, if anything.
 pub fn first_difference(fault: Option<Fault>, seed: u64) -> Option<(Mode, Box<Failure>)> {
     let engine = Double { fault };
-    for (mode, most) in TRIED {
+    let in_reading = fault.is_some_and(Fault::is_in_reading);
+    let reads = |mode| mode == Mode::Wkt;
+    for (mode, most) in TRIED
+        .into_iter()
+        .filter(|&(mode, _)| !in_reading || reads(mode))
+    {
         let mut portion = Portion::new(&engine, mode, 0, seed);
         if let Err(failure) = portion.run_some(most) {
             return Some((mode, failure));
@@ -98,6 +117,21 @@ impl Engine for Double {
         let (points, _) = points.as_chunks::<2>();
         let is_found = |&[x, y]: &[i64; 2]| self.locate(prepared, Query::grid(x, y)) != 0;
         Ok(points.iter().position(is_found))
+    }
+
+    fn read_wkt(&self, text: &[u8]) -> Judged {
+        let mut polygons = wkt::judged(text)?.polygons();
+        for ring in polygons.iter_mut().flatten() {
+            if self.has(Fault::LastPositionKept) {
+                ring.extend(ring.first().copied());
+            }
+        }
+        for rings in &mut polygons {
+            if self.has(Fault::RingsTurned) {
+                rings.reverse();
+            }
+        }
+        Ok(Plan::list(&polygons))
     }
 
     fn correct(&self, prepared: &mut Prepared, call: Call) -> Result<(), u64> {

@@ -3,10 +3,10 @@
 
 use crate::classes::Tally;
 use crate::engine::Engine;
-use crate::{lookups, moves};
+use crate::{lookups, moves, texts};
 use plans::generate::{self, Case, Size};
 use plans::largest::LARGEST;
-use plans::plan::Plan;
+use plans::plan::{Kind, Plan};
 use plans::points;
 use plans::random::Random;
 use plans::sessions::{self, Session};
@@ -21,15 +21,17 @@ pub enum Mode {
     Random,
     Largest,
     Moves,
+    Wkt,
     Rules,
 }
 
 /// All parts.
-pub const MODES: [Mode; 5] = [
+pub const MODES: [Mode; 6] = [
     Mode::Small,
     Mode::Random,
     Mode::Largest,
     Mode::Moves,
+    Mode::Wkt,
     Mode::Rules,
 ];
 
@@ -70,6 +72,14 @@ const LARGER_SESSION_SIZE: Size = Size {
 const CORRECTIONS_OF_LARGEST: usize = 12;
 const POINTS_AFTER_OF_LARGEST: usize = 32;
 
+/// Plans of a portion that are read from Well-Known Text, and the points that are asked of each. No spelling of one has more than 65,536 bytes.
+const WKT_PLANS: usize = 4_000;
+const WKT_POINTS: usize = 96;
+const WKT_SIZE: Size = Size {
+    corners: 400,
+    rings: 60,
+};
+
 /// Plans of a portion that are compared with the rules, and the points that are asked of each.
 const RULED_PLANS: usize = 20_000;
 const RULED_POINTS: usize = 64;
@@ -88,6 +98,7 @@ impl Mode {
             Mode::Random => "random",
             Mode::Largest => "largest",
             Mode::Moves => "moves",
+            Mode::Wkt => "wkt",
             Mode::Rules => "rules",
         }
     }
@@ -113,6 +124,10 @@ impl Mode {
                 "moves and undos on generated plans: each answer, the tables after it, and the\n\
                  replies of the original prepared anew; seeds as for random"
             }
+            Mode::Wkt => {
+                "generated plans as Well-Known Text in several spellings: the tables read, and the\n\
+                 replies of both over these; seeds as for random"
+            }
             Mode::Rules => {
                 "the original against document 01's rules (tests/plans), without the engine; seeds\n\
                  as for random"
@@ -131,6 +146,8 @@ impl Mode {
             (Mode::Largest, true) => 0..LARGEST.len(),
             (Mode::Moves, false) => 0..2,
             (Mode::Moves, true) => 0..40,
+            (Mode::Wkt, false) => 0..1,
+            (Mode::Wkt, true) => 0..40,
             (Mode::Rules, false) => 0..1,
             (Mode::Rules, true) => 0..20,
         }
@@ -138,19 +155,29 @@ impl Mode {
 
     /// Whether there is a portion of this number. There is no end to those that depend on a seed.
     pub fn has_portion(self, number: usize) -> bool {
-        let seeded = matches!(self, Mode::Random | Mode::Moves | Mode::Rules);
-        seeded || self.portions(true).contains(&number)
+        let listed = matches!(self, Mode::Small | Mode::Largest);
+        !listed || self.portions(true).contains(&number)
+    }
+
+    /// The kinds of plans of which each class of replies has to come up. Well-Known Text has lists alone.
+    fn counted_kinds(self) -> &'static [Kind] {
+        match self {
+            Mode::Small | Mode::Largest => &[],
+            Mode::Wkt => &[Kind::List],
+            Mode::Random | Mode::Moves | Mode::Rules => &[Kind::List, Kind::Tree],
+        }
     }
 
     /// What came up too seldom in a whole run of it.
     pub fn lacks(self, tally: &Tally) -> Vec<String> {
         let mut lacks = Vec::new();
-        let few = matches!(self, Mode::Small | Mode::Largest);
-        if !few && tally.classes.rarest() < OFTEN {
-            let rarest = tally.classes.rarest();
-            lacks.push(format!(
-                "a class of kind, ray and reply came up {rarest} times"
-            ));
+        for &kind in self.counted_kinds() {
+            let rarest = tally.classes.rarest(kind);
+            if rarest < OFTEN {
+                lacks.push(format!(
+                    "{kind:?}: a class of ray and reply came up {rarest} times"
+                ));
+            }
         }
         if self == Mode::Moves {
             for number in CORRECTION_ANSWERS {
@@ -178,12 +205,11 @@ pub fn compare(
     session: &Session,
     tally: &mut Tally,
 ) -> Result<(), String> {
-    if mode == Mode::Rules {
-        lookups::compare_rules(&session.case, tally)
-    } else if session.calls.is_empty() {
-        lookups::compare(engine, &session.case, tally)
-    } else {
-        moves::compare(engine, session, tally)
+    match mode {
+        Mode::Rules => lookups::compare_rules(&session.case, tally),
+        Mode::Wkt => texts::compare(engine, &session.case, tally),
+        _ if session.calls.is_empty() => lookups::compare(engine, &session.case, tally),
+        _ => moves::compare(engine, session, tally),
     }
 }
 
@@ -255,6 +281,9 @@ impl<'a> Portion<'a> {
                 let larger = LARGER_SESSION_SIZE;
                 let size = every(number, LARGER_SESSION_EVERY, larger, SESSION_SIZE);
                 sessions::session(seed, number, size, CORRECTIONS, POINTS_AFTER)
+            })),
+            Mode::Wkt => Box::new((0..WKT_PLANS).map(move |number| {
+                Session::of(generate::case(seed, number, WKT_SIZE, WKT_POINTS))
             })),
             Mode::Rules => Box::new((0..RULED_PLANS).map(move |number| {
                 Session::of(generate::case(seed, number, RANDOM_SIZE, RULED_POINTS))

@@ -13,6 +13,7 @@ fn seen_by(fault: Fault) -> Option<Mode> {
             Some(Mode::Random)
         }
         Fault::BoxesNeverNarrowed | Fault::UndoOneEarly => Some(Mode::Moves),
+        Fault::LastPositionKept | Fault::RingsTurned => Some(Mode::Wkt),
         Fault::TieToTheLaterRay | Fault::HalvesTruncated => None,
     }
 }

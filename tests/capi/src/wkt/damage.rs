@@ -11,8 +11,31 @@ const NEAR_BYTES: &[u8] = b"((()))   ,,,0123456789-+.eEMPTYPOLYGONMULTIZ\t\r\n";
 
 /// Words and marks of good texts, and some that are easily taken for them.
 const PIECES: &[&str] = &[
-    "(", ")", ",", " ", "", "((", "))", "()", ",,", "EMPTY", " EMPTY", "EMPTY ", "(EMPTY)", "POLYGON", "MULTIPOLYGON", "Z", "0 0",
-    "0 0 0", "(0 0)", "(0 0, 0 0)", "((0 0, 0 0))", ", 0 0", "\t", "\n", "empty",
+    "(",
+    ")",
+    ",",
+    " ",
+    "",
+    "((",
+    "))",
+    "()",
+    ",,",
+    "EMPTY",
+    " EMPTY",
+    "EMPTY ",
+    "(EMPTY)",
+    "POLYGON",
+    "MULTIPOLYGON",
+    "Z",
+    "0 0",
+    "0 0 0",
+    "(0 0)",
+    "(0 0, 0 0)",
+    "((0 0, 0 0))",
+    ", 0 0",
+    "\t",
+    "\n",
+    "empty",
 ];
 
 fn some_byte(random: &mut Random) -> u8 {

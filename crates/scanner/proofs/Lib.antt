@@ -1,0 +1,5 @@
+mod Same
+mod Pairs
+pub mod Puts
+mod RingScans
+mod PolygonScans

@@ -1,0 +1,17 @@
+-- `scanner::rings::first_of` meets its contract.
+use mathlib.Core.Path.{_≡_, refl, sym, subst, _∙_}
+use native.Mathlib.Omega.{arith}
+use borrow.Author.Needs.{needs}
+use borrow.Author.Tests.{eq-eqb, ne-eqb}
+use lib.Seq.{set-out}
+use Rattle.scanner.proofs.rings.first_of.Statement.{statement}
+use Rattle.scanner.proofs.rings.first_of.Tie as tie
+
+returns : tie.Need-returns
+returns c = rw (eq-eqb _ _ (c .if1 .taken)) refl
+
+returns-2 : tie.Need-returns-2
+returns-2 c = rw (ne-eqb _ _ (c .if1 .left)) refl
+
+pub first-of-spec : {M : Type 1} → statement M
+first-of-spec = tie.close (tie.spec returns returns-2)

@@ -1,0 +1,20 @@
+-- `scanner::rings::same_point` meets its contract.
+use mathlib.Core.Path.{_≡_, refl, sym, ap, ap₂, subst, _∙_}
+use mathlib.Core.Bool.{_&&_}
+use Prim.Native.Nat.{_*_, _+_}
+use native.Mathlib.Omega.{arith}
+use borrow.Author.Needs.{needs}
+use mir.Syntax.{w64}
+use mir.Val.{toZ, ofZ}
+use lib.Seq.{set-out}
+use lib.ListN.{set}
+use Rattle.scanner.proofs.Same.{words-same}
+use Rattle.scanner.proofs.Puts.{put-two}
+use Rattle.scanner.proofs.rings.same_point.Statement.{statement}
+use Rattle.scanner.proofs.rings.same_point.Tie as tie
+
+returns : tie.Need-returns
+returns c = let a = c .before .before .before .before .before .before .before .before .args in ap₂ _&&_ (words-same (a .p .x) (a .q .x) (record { sfits = c .before .before .before .before .before .before .struct-told .given .0 .1 }) (record { sfits = c .before .before .before .before .struct-told2 .given .0 .1 })) (words-same (a .p .y) (a .q .y) (record { sfits = c .before .before .struct-told3 .given .1 .0 .1 }) (record { sfits = c .struct-told4 .given .1 .0 .1 }))
+
+pub same-point-spec : {M : Type 1} → statement M
+same-point-spec = tie.close (tie.spec returns)

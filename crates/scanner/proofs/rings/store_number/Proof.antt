@@ -1,0 +1,33 @@
+-- `scanner::rings::store_number` meets its contract.
+use mathlib.Core.Path.{_≡_, refl, sym, ap, ap₂, subst, _∙_}
+use mathlib.Core.Bool.{_&&_}
+use Prim.Native.Nat.{_*_, _+_}
+use native.Mathlib.Omega.{arith}
+use borrow.Author.Needs.{needs}
+use mir.Syntax.{w64}
+use mir.Val.{toZ, ofZ}
+use lib.Seq.{set-out}
+use lib.ListN.{set}
+use Rattle.scanner.proofs.Same.{words-same}
+use Rattle.scanner.proofs.Puts.{put-two}
+use Rattle.scanner.proofs.rings.store_number.Statement.{statement}
+use Rattle.scanner.proofs.rings.store_number.Tie as tie
+
+mul-value : tie.Need-mul-value
+mul-value c = search needs
+
+slice-set-from-value : tie.Need-slice-set-from-value
+slice-set-from-value c = search needs
+
+same-length : tie.Need-same-length
+same-length c = search needs
+
+returns : tie.Need-returns
+returns c = search needs
+
+returns-2 : tie.Need-returns-2
+returns-2 c = sym (set-out (c .before .args .table .now) (c .before .args .k) _ (c .if1 .left))
+
+pub store-number-spec : {M : Type 1} → statement M
+store-number-spec =
+    tie.close (tie.spec mul-value slice-set-from-value same-length returns returns-2)

@@ -1,0 +1,20 @@
+// A text of Well-Known Text scanned (document 02, R-1): what it spells, counted, and stored as far as tables reach.
+pub mod positions;
+pub mod rings;
+pub mod polygons;
+
+/// How much of a plan the text so far gives, and whether each of its rings is closed.
+pub struct Extent {
+    pub corners: usize,
+    pub rings: usize,
+    pub polygons: usize,
+    pub closed: bool,
+}
+
+/// What a part of a text comes to.
+pub enum Scan {
+    /// The plan with this part, and the place behind it.
+    Read(Extent, usize),
+    /// 21: the place up to which no text of the grammar begins so.
+    Off(usize),
+}
