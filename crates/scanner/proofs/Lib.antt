@@ -3,3 +3,5 @@ mod Pairs
 pub mod Puts
 mod RingScans
 mod PolygonScans
+mod WordScans
+mod MemberScans

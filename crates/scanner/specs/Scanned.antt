@@ -3,9 +3,9 @@
 use mathlib.Core.Path.{_≡_}
 use mathlib.Core.Bool.{Bool, true, false}
 use mathlib.Core.List.{List, [], _∷_, _++_}
-use Prim.Native.Nat.{ℕ, _*_, _≤_, _<_}
+use Prim.Native.Nat.{ℕ, _+_, _*_, _≤_, _<_}
 use lib.IntN.{ℤ}
-use lib.ListN.{length, set}
+use lib.ListN.{length, getD, set}
 use Rattle.geom.specs.declared.Point.{Point}
 use Rattle.grammar.specs.Grammar.{Ring, Polygon}
 use Rattle.grammar.specs.Modes.{Mode, WantMember, WantRing, WantX, WantY, AfterY, AfterRing, AfterMember, Finished}
@@ -61,6 +61,14 @@ pub record RingThere (text : List ℕ) (at : ℕ) (want : Bool → Mode) (e : Ex
 abbrev pub RingScanned : List ℕ → ℕ → (Bool → Mode) → Extent → List ℤ → List ℤ → List ℕ → List ℕ → Scan → Type 0
 RingScanned text at want e corners corners′ lengths lengths′ (Scan.Read e′ end) = RingThere text at want e corners corners′ lengths lengths′ e′ end
 RingScanned text at want e corners corners′ lengths lengths′ (Scan.Off place) = (multi : Bool) (done : List Polygon) (rings : Polygon) → readFrom text at (want multi) (soFar done rings) ≡ Breaks place
+
+-- ---- a word
+
+-- so many bytes of it, from its start on, stand at a place
+pub record Matched (text : List ℕ) (at : ℕ) (word : List ℕ) (r : ℕ) : Type 0 where
+  pub most : r ≤ length word
+  pub upto : (j : ℕ) → j < r → getD text (at + j) 0 ≡ getD word j 0
+  pub stops : r < length word → getD text (at + r) 0 ≡ getD word r 0 → ⊥
 
 -- ---- polygons
 
@@ -123,3 +131,17 @@ pub record TextThere (text : List ℕ) (at : ℕ) (mode : Mode) (corners corners
 abbrev pub TextScanned : List ℕ → ℕ → Mode → List ℤ → List ℤ → List ℕ → List ℕ → List ℕ → List ℕ → Scan → Type 0
 TextScanned text at mode corners corners′ lengths lengths′ counts counts′ (Scan.Read e′ end) = TextThere text at mode corners corners′ lengths lengths′ counts counts′ e′
 TextScanned text at mode corners corners′ lengths lengths′ counts counts′ (Scan.Off place) = readFrom text at mode (soFar [] []) ≡ Breaks place
+
+-- EMPTY adds nothing, whatever the tables are
+abbrev pub EmptyScanned : List ℕ → ℕ → Mode → Scan → Type 0
+EmptyScanned text at mode r = (corners : List ℤ) (lengths counts : List ℕ) → TextScanned text at mode corners corners lengths lengths counts counts r
+
+-- a scan carried on to the end of the text
+abbrev pub Ended : List ℕ → Scan → Scan → Type 0
+Ended text (Scan.Off place) r = r ≡ Scan.Off place
+Ended text (Scan.Read e end) (Scan.Off place) = (f : So-far) → readFrom text end Finished f ≡ Breaks place
+Ended text (Scan.Read e end) (Scan.Read e′ end′) = (e′ ≡ e) × ((f : So-far) → readFrom text end Finished f ≡ Spells (f .done))
+
+abbrev pub Within : List ℕ → Scan → Type 0
+Within text (Scan.Off place) = Unit {0}
+Within text (Scan.Read e end) = end ≤ length text

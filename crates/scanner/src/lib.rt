@@ -2,6 +2,8 @@
 pub mod positions;
 pub mod rings;
 pub mod polygons;
+pub mod members;
+pub mod texts;
 
 /// How much of a plan the text so far gives, and whether each of its rings is closed.
 pub struct Extent {
