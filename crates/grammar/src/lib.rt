@@ -44,8 +44,5 @@ pub fn next_mark(text: &[u8], at: usize) -> Mark
 {
     let place = skip_spaces(text, at);
     let byte = byte_at(text, place);
-    Mark {
-        at: place,
-        byte,
-    }
+    Mark { at: place, byte }
 }

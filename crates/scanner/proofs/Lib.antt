@@ -5,3 +5,4 @@ mod RingScans
 mod PolygonScans
 mod WordScans
 mod MemberScans
+mod TextScans

@@ -1,8 +1,8 @@
 -- Members of a MULTIPOLYGON, and the loop over them. Assumes nothing.
 use mathlib.Core.Path.{_≡_, refl, sym, ap, ap₂, _∙_}
-use mathlib.Core.Bool.{Bool, true, false, _&&_}
+use mathlib.Core.Bool.{true, _&&_}
 use mathlib.Core.List.{List, [], _∷_, _++_, append-nil}
-use Prim.Native.Nat.{ℕ, suc, _+_, _*_, _≤_, _<_}
+use Prim.Native.Nat.{ℕ, _+_, _*_, _≤_, _<_}
 use native.Mathlib.Omega.{arith}
 use lib.IntN.{ℤ}
 use lib.ListN.{length, length-append}
@@ -10,7 +10,6 @@ use borrow.Author.Tests.{ne-eqb}
 use Rattle.rules.specs.Lists.{total}
 use Rattle.grammar.specs.declared.Mark.{Mark}
 use Rattle.grammar.specs.Grammar.{Polygon}
-use Rattle.grammar.specs.Words.{empty}
 use Rattle.grammar.specs.Modes.{Broken, WantMember, EmptyMember, AfterMember, WantRing, Finished, Nothing, nextMode, eventOf}
 use Rattle.grammar.specs.Spellings.{Breaks}
 use Rattle.grammar.specs.Scans.{readFrom}
@@ -24,7 +23,7 @@ use Rattle.scanner.specs.declared.Scan.{Scan}
 use Rattle.scanner.specs.declared.Scan.the-variants.{Read, Off}
 use Rattle.scanner.specs.Puts.{put}
 use Rattle.scanner.specs.Extents.{noExtent, withAll, Counted}
-use Rattle.scanner.specs.Scanned.{soFar, Matched, Adds, PolygonThere, PolygonScanned, MemberThere, MemberScanned, AllThere}
+use Rattle.scanner.specs.Scanned.{soFar, Matched, Adds, PolygonScanned, MemberThere, MemberScanned, AllThere}
 use Rattle.scanner.proofs.Puts.{put-append, put-length}
 use Rattle.scanner.proofs.WordScans.{member-spelt, word-off, word-whole, word-inside, empty-member}
 

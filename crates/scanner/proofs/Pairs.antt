@@ -1,14 +1,13 @@
 -- A position read: x, a space, y. Assumes nothing.
-use mathlib.Core.Path.{_≡_, refl, sym, ap, _∙_}
+use mathlib.Core.Path.{_≡_, refl, ap, _∙_}
 use mathlib.Core.Bool.{Bool, false}
 use mathlib.Core.List.{List}
-use Prim.Native.Nat.{ℕ, _+_, _≤_, _<_}
+use Prim.Native.Nat.{ℕ, _+_, _<_}
 use native.Mathlib.Decide.{decLt}
 use native.Mathlib.Omega.{arith}
 use lib.IntN.{ℤ}
 use lib.ListN.{length, getD, List·getD-eq-default}
 use borrow.Author.Tests.{ne-eqb}
-use Rattle.geom.specs.declared.Point.{Point}
 use Rattle.grammar.specs.declared.numbers.Token.{Token}
 use Rattle.grammar.specs.declared.numbers.Token as Token
 use Rattle.grammar.specs.Numbers.{Whole, Value, isDigit, wholeOf}
@@ -19,7 +18,7 @@ use Rattle.grammar.specs.Tokens.{X, Y, wanting, NumberRead}
 use Rattle.grammar.proofs.Steps.{leads, leaves, stops-early, alike}
 use Rattle.scanner.specs.declared.positions.Position.{Position}
 use Rattle.scanner.specs.declared.positions.Position as Position
-use Rattle.scanner.specs.Scanned.{afterPosition, PositionEnds, PositionRead, OrdinateRead}
+use Rattle.scanner.specs.Scanned.{PositionEnds, PositionRead, OrdinateRead}
 
 -- ---- behind y
 
@@ -82,8 +81,8 @@ module _ (text : List ℕ) (at : ℕ) where
         record {
           ends = farther r (y .ends);
           means = λ multi f. g .means (X multi) f
-          ∙ leads text end (InX multi (Value (wholeOf x))) f (WantY multi (wholeOf x)) Nothing (space-inside e) (ap (nextMode (InX multi (Value (wholeOf x)))) e ∙ x-next multi (wholeOf x)) (x-event multi (wholeOf x) (getD text end 0)) refl
-          ∙ y .means multi f;
+              ∙ leads text end (InX multi (Value (wholeOf x))) f (WantY multi (wholeOf x)) Nothing (space-inside e) (ap (nextMode (InX multi (Value (wholeOf x)))) e ∙ x-next multi (wholeOf x)) (x-event multi (wholeOf x) (getD text end 0)) refl
+              ∙ y .means multi f;
         }
       where
         farther : (r : Position) → PositionEnds text (end + 1) r → PositionEnds text at r

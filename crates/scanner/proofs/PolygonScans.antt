@@ -2,17 +2,17 @@
 use mathlib.Core.Path.{_≡_, refl, sym, ap, ap₂, _∙_}
 use mathlib.Core.Bool.{Bool, true, false, _&&_}
 use mathlib.Core.List.{List, [], _∷_, _++_, append-nil}
-use Prim.Native.Nat.{ℕ, suc, _+_, _-_, _*_, _≤_, _<_}
+use Prim.Native.Nat.{ℕ, _+_, _-_, _*_, _≤_, _<_}
 use native.Mathlib.Omega.{arith}
 use lib.IntN.{ℤ}
-use lib.ListN.{length, set, length-append, length-set}
+use lib.ListN.{length, set, length-append}
 use borrow.Author.Tests.{ne-eqb}
 use Rattle.rules.specs.Lists.{total}
 use Rattle.grammar.specs.declared.Mark.{Mark}
 use Rattle.grammar.specs.Grammar.{Ring, Polygon}
 use Rattle.grammar.specs.Modes.{Broken, WantRing, AfterRing, Nothing, PolygonEnds, nextMode, eventOf}
 use Rattle.grammar.specs.Spellings.{Breaks}
-use Rattle.grammar.specs.Scans.{isBroken, mayEnd, readFrom}
+use Rattle.grammar.specs.Scans.{isBroken, readFrom}
 use Rattle.grammar.specs.Tokens.{Resting, MarkRead}
 use Rattle.grammar.specs.Texts.{dropLast}
 use Rattle.grammar.specs.Plans.{isClosed, numbersOf, ringNumbers, ringLengths, allClosed, everyClosed, coordinates}
@@ -22,7 +22,7 @@ use Rattle.grammar.proofs.Tables.{rings-append, ring-lengths-append, total-appe
 use Rattle.scanner.specs.declared.Extent.{Extent}
 use Rattle.scanner.specs.Puts.{put}
 use Rattle.scanner.specs.Extents.{withRing, withRings, withPolygon, withAll, Counted}
-use Rattle.scanner.specs.Scanned.{soFar, RingThere, RingScanned, afterPolygon, Adds, PolygonThere, PolygonScanned}
+use Rattle.scanner.specs.Scanned.{soFar, RingThere, afterPolygon, PolygonThere}
 use Rattle.scanner.proofs.Puts.{put-append, put-length, put-one}
 
 -- ---- the bytes behind a ring

@@ -1,8 +1,8 @@
 -- The loop over the positions of a ring, and its ways out. Assumes nothing.
 use mathlib.Core.Path.{_≡_, refl, sym, ap, ap₂, _∙_}
-use mathlib.Core.Bool.{Bool, true, false}
+use mathlib.Core.Bool.{Bool}
 use mathlib.Core.List.{List, [], _∷_, _++_}
-use Prim.Native.Nat.{ℕ, suc, _+_, _*_, _≤_, _<_}
+use Prim.Native.Nat.{ℕ, _+_, _*_, _≤_, _<_}
 use native.Mathlib.Omega.{arith}
 use lib.IntN.{ℤ}
 use lib.ListN.{length, set, length-append}
@@ -12,7 +12,7 @@ use Rattle.grammar.specs.declared.Mark.{Mark}
 use Rattle.grammar.specs.Grammar.{Ring, Polygon}
 use Rattle.grammar.specs.Modes.{Broken, WantRing, WantX, Nothing, AfterY, AfterRing, Place, Corner, RingEnds, nextMode, eventOf}
 use Rattle.grammar.specs.Spellings.{Breaks}
-use Rattle.grammar.specs.Scans.{So-far, pointOf, placeOf, readFrom}
+use Rattle.grammar.specs.Scans.{placeOf, readFrom}
 use Rattle.grammar.specs.Tokens.{Resting, MarkRead}
 use Rattle.grammar.specs.Texts.{dropLast}
 use Rattle.grammar.specs.Plans.{samePoint, isClosed, numbersOf}
@@ -109,14 +109,14 @@ module _ (text : List ℕ) (at n : ℕ) (corners₀ corners : List ℤ) (first :
           counted = omega arith;
           begins = mathlib.Core.Path.subst (λ o. FirstIs o (g .points ++ (p ∷ []))) (sym e) (first-kept count first p (g .points) (g .counted) (g .begins));
           means = λ multi done rings.
-          g .means multi done rings
-          ∙ q .means multi (record { done = done; rings = rings; ring = g .points })
-          ∙ mark-leads text end m k (AfterY multi (placeOf p)) (record { done = done; rings = rings; ring = g .points }) 43 (WantX multi) (Corner (placeOf p)) (after-rests multi (placeOf p)) c (comma multi (placeOf p) .0) (comma multi (placeOf p) .1) refl
-          ∙ ap (λ o. readFrom text (m .at + 1) (WantX multi) (record { done = done; rings = rings; ring = g .points ++ (o ∷ []) })) (point-back p);
+              g .means multi done rings
+              ∙ q .means multi (record { done = done; rings = rings; ring = g .points })
+              ∙ mark-leads text end m k (AfterY multi (placeOf p)) (record { done = done; rings = rings; ring = g .points }) 43 (WantX multi) (Corner (placeOf p)) (after-rests multi (placeOf p)) c (comma multi (placeOf p) .0) (comma multi (placeOf p) .1) refl
+              ∙ ap (λ o. readFrom text (m .at + 1) (WantX multi) (record { done = done; rings = rings; ring = g .points ++ (o ∷ []) })) (point-back p);
           held = s ∙ ap (put (2 * (n + count)) (p .x ∷ p .y ∷ [])) (g .held)
-          ∙ ap (λ i. put i (p .x ∷ p .y ∷ []) (put (2 * n) (numbersOf (g .points)) corners₀)) (let t = numbers-twice (g .points) in let i : 2 * (n + count) ≡ 2 * n + length (numbersOf (g .points)) = omega arith in i)
-          ∙ sym (put-append (2 * n) (numbersOf (g .points)) (p .x ∷ p .y ∷ []) corners₀)
-          ∙ ap (λ xs. put (2 * n) xs corners₀) (sym (numbers-append (g .points) (p ∷ [])));
+              ∙ ap (λ i. put i (p .x ∷ p .y ∷ []) (put (2 * n) (numbersOf (g .points)) corners₀)) (let t = numbers-twice (g .points) in let i : 2 * (n + count) ≡ 2 * n + length (numbersOf (g .points)) = omega arith in i)
+              ∙ sym (put-append (2 * n) (numbersOf (g .points)) (p .x ∷ p .y ∷ []) corners₀)
+              ∙ ap (λ xs. put (2 * n) xs corners₀) (sym (numbers-append (g .points) (p ∷ [])));
           on = omega arith;
           inside = omega arith;
         }
@@ -135,10 +135,10 @@ module _ (text : List ℕ) (at n : ℕ) (corners₀ corners : List ℤ) (first :
         record {
           ring = g .points ++ (p ∷ []);
           means = λ multi done rings.
-          g .means multi done rings
-          ∙ q .means multi (record { done = done; rings = rings; ring = g .points })
-          ∙ mark-leads text end m k (AfterY multi (placeOf p)) (record { done = done; rings = rings; ring = g .points }) 40 (AfterRing multi) (RingEnds (placeOf p)) (after-rests multi (placeOf p)) c (bracket multi (placeOf p) .0) (bracket multi (placeOf p) .1) refl
-          ∙ ap (λ o. readFrom text (m .at + 1) (AfterRing multi) (soFar done (rings ++ ((g .points ++ (o ∷ [])) ∷ [])))) (point-back p);
+              g .means multi done rings
+              ∙ q .means multi (record { done = done; rings = rings; ring = g .points })
+              ∙ mark-leads text end m k (AfterY multi (placeOf p)) (record { done = done; rings = rings; ring = g .points }) 40 (AfterRing multi) (RingEnds (placeOf p)) (after-rests multi (placeOf p)) c (bracket multi (placeOf p) .0) (bracket multi (placeOf p) .1) refl
+              ∙ ap (λ o. readFrom text (m .at + 1) (AfterRing multi) (soFar done (rings ++ ((g .points ++ (o ∷ [])) ∷ [])))) (point-back p);
           counted = is;
           corners-put = g .held ∙ ap₂ (λ i ring. put (2 * i) (numbersOf ring) corners₀) same (sym dropped);
           lengths-put = stored ∙ ap (set lengths (e .rings)) counts;

@@ -6,9 +6,8 @@ use mathlib.Core.List.{List, [], _∷_, _++_}
 use Prim.Native.Nat.{ℕ, _+_, _*_, _≤_, _<_}
 use lib.IntN.{ℤ}
 use lib.ListN.{length, getD, set}
-use Rattle.geom.specs.declared.Point.{Point}
 use Rattle.grammar.specs.Grammar.{Ring, Polygon}
-use Rattle.grammar.specs.Modes.{Mode, WantMember, WantRing, WantX, WantY, AfterY, AfterRing, AfterMember, Finished}
+use Rattle.grammar.specs.Modes.{Mode, Word, WantMember, WantRing, WantX, WantY, AfterY, AfterRing, AfterMember, Finished, wordOf}
 use Rattle.grammar.specs.Numbers.{wholeOf}
 use Rattle.grammar.specs.Spellings.{Spelling, Spells, Breaks}
 use Rattle.grammar.specs.Scans.{So-far, placeOf, readFrom}
@@ -135,6 +134,10 @@ TextScanned text at mode corners corners′ lengths lengths′ counts counts′ 
 -- EMPTY adds nothing, whatever the tables are
 abbrev pub EmptyScanned : List ℕ → ℕ → Mode → Scan → Type 0
 EmptyScanned text at mode r = (corners : List ℤ) (lengths counts : List ℕ) → TextScanned text at mode corners corners lengths lengths counts counts r
+
+-- behind either word
+abbrev pub WithoutBrackets : List ℕ → ℕ → Scan → Type 0
+WithoutBrackets text at r = (multi : Bool) → at ≡ length (wordOf multi) → EmptyScanned text at (Word multi at) r
 
 -- a scan carried on to the end of the text
 abbrev pub Ended : List ℕ → Scan → Scan → Type 0

@@ -1,8 +1,8 @@
 // A text of Well-Known Text scanned (document 02, R-1): what it spells, counted, and stored as far as tables reach.
+pub mod members;
+pub mod polygons;
 pub mod positions;
 pub mod rings;
-pub mod polygons;
-pub mod members;
 pub mod texts;
 
 /// How much of a plan the text so far gives, and whether each of its rings is closed.

@@ -83,13 +83,7 @@ fn with_ring(extent: Extent, count: usize, closed: bool) -> Extent
 }
 
 // A ring from behind its opening bracket on.
-fn ring(
-    text: &[u8],
-    at: usize,
-    corners: &mut [i64],
-    lengths: &mut [usize],
-    extent: Extent,
-) -> Scan
+fn ring(text: &[u8], at: usize, corners: &mut [i64], lengths: &mut [usize], extent: Extent) -> Scan
     requires { ⌜ (length (now text) ≤ 65536) × (at ≤ length (now text)) × Counted extent at ⌝ }
     ensures { λ r. ⌜ RingScanned (now (text .entry)) at WantX extent (now (corners .entry)) (now (corners .exit)) (now (lengths .entry)) (now (lengths .exit)) r ⌝ }
 {

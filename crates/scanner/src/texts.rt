@@ -1,11 +1,11 @@
 // A whole text: its first word, and what stands behind it.
 ghost use mathlib.Core.Path.{_≡_};
-ghost use mathlib.Core.Bool.{Bool, true, false};
+ghost use mathlib.Core.Bool.{true, false};
 ghost use Prim.Native.Nat.{_≤_};
 ghost use lib.ListN.{length};
-ghost use Rattle.grammar.specs.Modes.{Start, Word, EmptyText, wordOf};
+ghost use Rattle.grammar.specs.Modes.{Start, Word, EmptyText};
 ghost use Rattle.grammar.specs.Tokens.{MarkRead};
-ghost use Rattle.scanner.specs.Scanned.{TextScanned, EmptyScanned, Ended, Within};
+ghost use Rattle.scanner.specs.Scanned.{TextScanned, EmptyScanned, WithoutBrackets, Ended, Within};
 use crate::Scan;
 use crate::members::matched;
 use crate::members::members;
@@ -51,7 +51,7 @@ fn empty_text(text: &[u8], at: usize) -> Scan
 // A text from behind its first word on, where this byte comes next and is no bracket: EMPTY, with a space before it.
 fn without_brackets(text: &[u8], at: usize, next: Mark) -> Scan
     requires { ⌜ (length (now text) ≤ 65536) × MarkRead (now text) at next × (next .byte ≡ 40 → ⊥) ⌝ }
-    ensures { λ r. ⌜ (multi : Bool) → at ≡ length (wordOf multi) → EmptyScanned (now (text .entry)) at (Word multi at) r ⌝ }
+    ensures { λ r. ⌜ WithoutBrackets (now (text .entry)) at r ⌝ }
 {
     if next.byte != b'E' {
         return Scan::Off(next.at);
@@ -78,7 +78,10 @@ fn polygon_text(
     }
     let next = next_mark(text, 7);
     if next.byte == b'(' {
-        return to_end(text, polygon(text, next.at + 1, corners, lengths, counts, no_extent()));
+        return to_end(
+            text,
+            polygon(text, next.at + 1, corners, lengths, counts, no_extent()),
+        );
     }
     without_brackets(text, 7, next)
 }
@@ -106,12 +109,7 @@ fn multipolygon_text(
 
 /// What a text spells: how much of a plan, which is stored as far as the tables reach, or where it leaves the grammar. Off the grammar, what is
 /// stored is what it spells up to there.
-pub fn scan(
-    text: &[u8],
-    corners: &mut [i64],
-    lengths: &mut [usize],
-    counts: &mut [usize],
-) -> Scan
+pub fn scan(text: &[u8], corners: &mut [i64], lengths: &mut [usize], counts: &mut [usize]) -> Scan
     requires { ⌜ length (now text) ≤ 65536 ⌝ }
     ensures { λ r. ⌜ TextScanned (now (text .entry)) 0 Start (now (corners .entry)) (now (corners .exit)) (now (lengths .entry)) (now (lengths .exit)) (now (counts .entry)) (now (counts .exit)) r ⌝ }
 {

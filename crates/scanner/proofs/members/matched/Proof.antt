@@ -1,13 +1,10 @@
 -- `scanner::members::matched` meets its contract.
-use mathlib.Core.Path.{_≡_, refl, sym, ap, subst, _∙_}
-use Prim.Native.Nat.{_+_, _-_, _*_, _≤_, _<_}
+use mathlib.Core.Path.{_≡_, sym, _∙_}
+use Prim.Native.Nat.{_+_, _-_, _≤_, _<_}
 use native.Mathlib.Omega.{arith}
 use borrow.Author.Needs.{needs}
 use lib.ListN.{length, getD}
-use Rattle.grammar.proofs.Steps.{mark-inside}
-use Rattle.scanner.proofs.RingScans.{fewer}
 use Rattle.scanner.proofs.WordScans.{none-matched, one-matched}
-use Rattle.scanner.proofs.MemberScans.{member-off, member-opened, empty-off, empty-there}
 use Rattle.scanner.proofs.members.matched.Statement.{statement}
 use Rattle.scanner.proofs.members.matched.Tie as tie
 

@@ -1,12 +1,11 @@
 -- `scanner::members::members` meets its contract.
-use mathlib.Core.Path.{_≡_, refl, sym, ap, subst, _∙_}
-use Prim.Native.Nat.{_+_, _-_, _*_, _≤_, _<_}
+use mathlib.Core.Path.{subst, _∙_}
+use Prim.Native.Nat.{_-_}
 use native.Mathlib.Omega.{arith}
 use borrow.Author.Needs.{needs}
-use lib.ListN.{length, getD}
+use lib.ListN.{length}
 use Rattle.grammar.proofs.Steps.{mark-inside}
 use Rattle.scanner.specs.Scanned.{MemberScanned}
-use Rattle.scanner.proofs.RingScans.{fewer}
 use Rattle.scanner.proofs.MemberScans.{Members, no-members, members-lengths, members-early, next-off, behind-off, one-more, members-whole}
 use Rattle.scanner.proofs.members.members.Statement.{statement}
 use Rattle.scanner.proofs.members.members.Tie as tie

@@ -1,15 +1,13 @@
 -- `scanner::positions::read_y` meets its contract.
-use mathlib.Core.Path.{_≡_, sym, subst, _∙_}
-use Prim.Native.Nat.{_+_, _<_}
-use native.Mathlib.Omega.{arith}
+use mathlib.Core.Path.{_≡_, sym, subst}
+use Prim.Native.Nat.{_+_}
 use mir.Syntax.{w64}
 use mir.Val.{toZ, ofZ}
 use borrow.Author.Needs.{needs}
-use lib.ListN.{length, getD}
 use Rattle.grammar.specs.Tokens.{wanting, NumberRead}
 use Rattle.scanner.specs.declared.positions.Position.the-variants.{At}
 use Rattle.scanner.specs.Scanned.{OrdinateRead}
-use Rattle.scanner.proofs.Pairs.{y-read, y-off, x-off, x-alone, space-inside, position-read}
+use Rattle.scanner.proofs.Pairs.{y-read, y-off}
 use Rattle.scanner.proofs.positions.read_y.Statement.{statement}
 use Rattle.scanner.proofs.positions.read_y.Tie as tie
 

@@ -1,9 +1,7 @@
 -- `scanner::rings::closes` meets its contract.
-use mathlib.Core.Path.{_≡_, refl, sym, subst, _∙_}
-use native.Mathlib.Omega.{arith}
+use mathlib.Core.Path.{refl}
 use borrow.Author.Needs.{needs}
 use borrow.Author.Tests.{eq-eqb, ne-eqb}
-use lib.Seq.{set-out}
 use Rattle.scanner.proofs.rings.closes.Statement.{statement}
 use Rattle.scanner.proofs.rings.closes.Tie as tie
 

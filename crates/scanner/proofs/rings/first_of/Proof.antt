@@ -1,9 +1,6 @@
 -- `scanner::rings::first_of` meets its contract.
-use mathlib.Core.Path.{_≡_, refl, sym, subst, _∙_}
-use native.Mathlib.Omega.{arith}
-use borrow.Author.Needs.{needs}
+use mathlib.Core.Path.{refl}
 use borrow.Author.Tests.{eq-eqb, ne-eqb}
-use lib.Seq.{set-out}
 use Rattle.scanner.proofs.rings.first_of.Statement.{statement}
 use Rattle.scanner.proofs.rings.first_of.Tie as tie
 

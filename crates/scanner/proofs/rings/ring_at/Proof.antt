@@ -1,9 +1,7 @@
 -- `scanner::rings::ring_at` meets its contract.
-use mathlib.Core.Path.{_≡_, refl, sym, ap, subst, _∙_}
-use Prim.Native.Nat.{_+_, _-_, _*_, _≤_, _<_}
+use Prim.Native.Nat.{_+_, _-_}
 use native.Mathlib.Omega.{arith}
 use borrow.Author.Needs.{needs}
-use lib.ListN.{length, set, length-set}
 use Rattle.grammar.proofs.Steps.{mark-inside}
 use Rattle.scanner.proofs.RingScans.{open-off, opened, fewer}
 use Rattle.scanner.proofs.rings.ring_at.Statement.{statement}
