@@ -1,0 +1,4 @@
+pub mod Parts
+pub mod Leads
+pub mod Pairs
+pub mod Corners
