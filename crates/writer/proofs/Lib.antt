@@ -2,3 +2,5 @@ pub mod Parts
 pub mod Leads
 pub mod Pairs
 pub mod Corners
+pub mod Slices
+pub mod Polygons
