@@ -4,3 +4,4 @@ pub mod Pairs
 pub mod Corners
 pub mod Slices
 pub mod Polygons
+pub mod Members
