@@ -36,6 +36,34 @@ second-room at a b o o′ m h f =
 pub first-room : (at : ℕ) (a b o : List ℕ) → at + length (a ++ b) ≤ length o → at + length a ≤ length o
 first-room at a b o h = let l = length-append a b in omega (arith, h, l)
 
+-- ---- in three parts
+
+pub record Three (text a b c : List ℕ) : Type 0 where
+  pub is : text ≡ (a ++ b) ++ c
+
+module _ {text a b c : List ℕ} (parts : Three text a b c) (at : ℕ) (o : List ℕ) (room : at + length text ≤ length o) where
+  room-in-parts : at + length ((a ++ b) ++ c) ≤ length o
+  room-in-parts = subst (λ s. at + length s ≤ length o) (parts .is) room
+
+  room-of-two : at + length (a ++ b) ≤ length o
+  room-of-two = first-room at (a ++ b) c o room-in-parts
+
+  pub room-one : at + length a ≤ length o
+  room-one = first-room at a b o room-of-two
+
+  module _ (o1 : List ℕ) (n1 : ℕ) (w1 : Wrote at a o o1 n1) where
+    pub room-two : n1 + length b ≤ length o1
+    room-two = second-room at a b o o1 n1 room-of-two w1
+
+    module _ (o2 : List ℕ) (n2 : ℕ) (w2 : Wrote n1 b o1 o2 n2) where
+      pub room-three : n2 + length c ≤ length o2
+      room-three = second-room at (a ++ b) c o o2 n2 room-in-parts (wrote-both at a b o o1 o2 n1 n2 room-of-two w1 w2)
+
+      pub wrote-three : (o3 : List ℕ) (n3 : ℕ) → Wrote n2 c o2 o3 n3 → Wrote at text o o3 n3
+      wrote-three o3 n3 w3 = subst (λ s. Wrote at s o o3 n3) (sym (parts .is)) (wrote-both at (a ++ b) c o o2 o3 n2 n3 room-in-parts (wrote-both at a b o o1 o2 n1 n2 room-of-two w1 w2) w3)
+
+-- ---- item by item
+
 module _ {A : Type 0} (text : A → List ℕ) where
   after-leads : (i : ℕ) (items : List A) → after text items ≡ leads text (suc i) items ++ (41 ∷ [])
   unfolding after leads
@@ -95,10 +123,10 @@ module _ {A : Type 0} (text : A → List ℕ) (items : List A) (at : ℕ) (o : L
           done = g .done ++ (lead i ++ text item);
           wrote = wrote-on at (g .done) o done-room (lead i ++ text item) o′ o″ place place′ (g .wrote) w;
           rest =
-            ap (λ j. (g .done ++ (lead i ++ text item)) ++ leads text j (drop j items)) (add-one i)
-            ∙ append-assoc (g .done) (lead i ++ text item) (leads text (suc i) (drop (suc i) items))
-            ∙ ap (λ s. g .done ++ s) (sym split)
-            ∙ g .rest;
+              ap (λ j. (g .done ++ (lead i ++ text item)) ++ leads text j (drop j items)) (add-one i)
+              ∙ append-assoc (g .done) (lead i ++ text item) (leads text (suc i) (drop (suc i) items))
+              ∙ ap (λ s. g .done ++ s) (sym split)
+              ∙ g .rest;
         }
 
   pub gone : drop i items ≡ [] → Wrote at (leads text 0 items) o o′ place

@@ -5,3 +5,4 @@ pub mod Corners
 pub mod Slices
 pub mod Polygons
 pub mod Members
+pub mod Whole

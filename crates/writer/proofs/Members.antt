@@ -128,7 +128,7 @@ module _ (coordinates : List ℤ) (lengths counts : List ℕ) (d : Drawn coordin
     polygon-here =
         map-here (map closed) (partsOf counts (partsOf lengths (cornersOf coordinates))) i _ (cut-item counts (partsOf lengths (cornersOf coordinates)) i ring (s .polygon) h)
         ∙ ap (λ rings. map closed rings ∷ drop (suc i) (closedPolygons coordinates lengths counts))
-            (cut-parts lengths (cornersOf coordinates) ring first (s .corner) c ∙ ap₂ partsOf (sym (rings-part lengths ring c)) (sym (rest-corners coordinates first)))
+        (cut-parts lengths (cornersOf coordinates) ring first (s .corner) c ∙ ap₂ partsOf (sym (rings-part lengths ring c)) (sym (rest-corners coordinates first)))
 
 -- ---- the loop
 

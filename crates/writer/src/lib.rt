@@ -101,7 +101,13 @@ fn corner_count(lengths: &[usize]) -> usize
 }
 
 // Writes the polygons of a list that has one at least.
-fn put_polygons(output: &mut [u8], at: usize, coordinates: &[i64], lengths: &[usize], counts: &[usize]) -> usize
+fn put_polygons(
+    output: &mut [u8],
+    at: usize,
+    coordinates: &[i64],
+    lengths: &[usize],
+    counts: &[usize],
+) -> usize
     requires { ⌜ Drawn (now coordinates) (now lengths) (now counts) × (at + length (leads polygonText 0 (closedPolygons (now coordinates) (now lengths) (now counts))) ≤ length (now output)) ⌝ }
     ensures { λ r. ⌜ Wrote at (leads polygonText 0 (closedPolygons (now (coordinates .entry)) (now (lengths .entry)) (now (counts .entry)))) (now (output .entry)) (now (output .exit)) r ⌝ }
 {
@@ -123,7 +129,12 @@ fn put_polygons(output: &mut [u8], at: usize, coordinates: &[i64], lengths: &[us
 
 /// Writes a list plan into the output from its start: coordinates x, y, x, y, .., the length of each ring, and how many rings each polygon
 /// has. Gives how many bytes it wrote. The plan is one that is accepted and has no empty ring, and the output has room.
-pub fn put_text(output: &mut [u8], coordinates: &[i64], lengths: &[usize], counts: &[usize]) -> usize
+pub fn put_text(
+    output: &mut [u8],
+    coordinates: &[i64],
+    lengths: &[usize],
+    counts: &[usize],
+) -> usize
     requires { ⌜ Drawn (now coordinates) (now lengths) (now counts) × (length (wktOf (listOf (now coordinates) (now lengths) (now counts))) ≤ length (now output)) ⌝ }
     ensures { λ r. ⌜ Wrote 0 (wktOf (listOf (now (coordinates .entry)) (now (lengths .entry)) (now (counts .entry)))) (now (output .entry)) (now (output .exit)) r ⌝ }
 {

@@ -57,7 +57,7 @@ put-next-requires c κs =
     let ex : toZ w64 (ofZ w64 (getD (a .ring .now) (2 * l .i) (pos 0))) ≡ getD (a .ring .now) (2 * l .i) (pos 0) = search needs in
     let ey : toZ w64 (ofZ w64 (getD (a .ring .now) (2 * l .i + 1) (pos 0))) ≡ getD (a .ring .now) (2 * l .i + 1) (pos 0) = search needs in
     subst (λ p. l .place + length (lead (l .i) ++ pairText p) ≤ length (l .output)) (ap₂ (λ x y. record { x = x; y = y }) (sym ex) (sym ey))
-        (next-room pairText (cornersOf (a .ring .now)) (a .at) (a .output .now) (c .before .before .before .before .before .before .pre) (l .output) (l .place) (l .i) (l .inv .1) (cornerAt (a .ring .now) (l .i)) (corner-here (a .ring .now) (l .i) (c .before .before .before .loop-test .taken)))
+    (next-room pairText (cornersOf (a .ring .now)) (a .at) (a .output .now) (c .before .before .before .before .before .before .pre) (l .output) (l .place) (l .i) (l .inv .1) (cornerAt (a .ring .now) (l .i)) (corner-here (a .ring .now) (l .i) (c .before .before .before .loop-test .taken)))
 
 add-i : tie.Need-add-i Inv-loop μ-loop
 add-i c = search needs
@@ -70,9 +70,11 @@ loop-again c =
     let a = c .before .before .before .before .before .before .before .before .before .args in
     let l = c .before .before .before .before .before .before .before .loop in
     let ex : toZ w64 (ofZ w64 (getD (a .ring .now) (2 * l .i) (pos 0))) ≡ getD (a .ring .now) (2 * l .i) (pos 0) = search needs in
-    let ey : toZ w64 (ofZ w64 (getD (a .ring .now) (2 * l .i + 1) (pos 0))) ≡ getD (a .ring .now) (2 * l .i + 1) (pos 0) = search needs in
-    (omega (arith, c .before .before .before .before .before .before .loop-test .taken), going-on pairText (cornersOf (a .ring .now)) (a .at) (a .output .now) (c .before .before .before .before .before .before .before .before .before .pre) (l .output) (l .place) (l .i) (l .inv .1) (cornerAt (a .ring .now) (l .i)) (corner-here (a .ring .now) (l .i) (c .before .before .before .before .before .before .loop-test .taken)) _ _
-        (subst (λ p. Wrote (l .place) (lead (l .i) ++ pairText p) (l .output) (c .before .before .put-next .last .0) (c .before .before .put-next .result)) (ap₂ (λ x y. record { x = x; y = y }) ex ey) (c .before .before .put-next .ensures)))
+    let ey : toZ w64 (ofZ w64 (getD (a .ring .now) (2 * l .i + 1) (pos 0))) ≡ getD (a .ring .now) (2 * l .i + 1) (pos 0) = search needs in (
+      omega (arith, c .before .before .before .before .before .before .loop-test .taken),
+      going-on pairText (cornersOf (a .ring .now)) (a .at) (a .output .now) (c .before .before .before .before .before .before .before .before .before .pre) (l .output) (l .place) (l .i) (l .inv .1) (cornerAt (a .ring .now) (l .i)) (corner-here (a .ring .now) (l .i) (c .before .before .before .before .before .before .loop-test .taken)) _ _
+          (subst (λ p. Wrote (l .place) (lead (l .i) ++ pairText p) (l .output) (c .before .before .put-next .last .0) (c .before .before .put-next .result)) (ap₂ (λ x y. record { x = x; y = y }) ex ey) (c .before .before .put-next .ensures)),
+    )
 
 same-length : tie.Need-same-length Inv-loop μ-loop
 same-length c = let a = c .before .before .before .args in let l = c .before .loop in kept pairText (cornersOf (a .ring .now)) (a .at) (a .output .now) (c .before .before .before .pre) (l .output) (l .place) (l .i) (l .inv .1)

@@ -25,7 +25,7 @@ put-pair-requires c κs =
     let ex : toZ w64 (ofZ w64 (a .x)) ≡ a .x = search needs in
     let ey : toZ w64 (ofZ w64 (a .y)) ≡ a .y = search needs in
     subst (λ s. c .before .before .before .put-lead .result + length s ≤ length (c .before .before .before .put-lead .last .0)) (ap₂ (λ x y. pairText (record { x = x; y = y })) (sym ex) (sym ey))
-        (second-room (a .at) (lead (a .i)) (pairText (record { x = a .x; y = a .y })) (a .output .now) _ _ (c .before .before .before .before .before .before .pre) (c .before .before .before .put-lead .ensures))
+    (second-room (a .at) (lead (a .i)) (pairText (record { x = a .x; y = a .y })) (a .output .now) _ _ (c .before .before .before .before .before .before .pre) (c .before .before .before .put-lead .ensures))
 
 same-length : tie.Need-same-length
 same-length c = search needs
@@ -36,7 +36,7 @@ returns c =
     let ex : toZ w64 (ofZ w64 (a .x)) ≡ a .x = search needs in
     let ey : toZ w64 (ofZ w64 (a .y)) ≡ a .y = search needs in
     wrote-both (a .at) (lead (a .i)) (pairText (record { x = a .x; y = a .y })) (a .output .now) _ _ _ _ (c .before .before .before .before .before .before .before .before .before .pre) (c .before .before .before .before .before .before .put-lead .ensures)
-        (subst (λ s. Wrote (c .before .before .before .before .before .before .put-lead .result) s (c .before .before .before .before .before .before .put-lead .last .0) (c .before .before .put-pair .last .0) (c .before .before .put-pair .result)) (ap₂ (λ x y. pairText (record { x = x; y = y })) ex ey) (c .before .before .put-pair .ensures))
+    (subst (λ s. Wrote (c .before .before .before .before .before .before .put-lead .result) s (c .before .before .before .before .before .before .put-lead .last .0) (c .before .before .put-pair .last .0) (c .before .before .put-pair .result)) (ap₂ (λ x y. pairText (record { x = x; y = y })) ex ey) (c .before .before .put-pair .ensures))
 
 pub put-next-spec : {M : Type 1} → statement M
 put-next-spec = tie.close (tie.spec put-lead-requires put-pair-requires same-length returns)

@@ -50,9 +50,9 @@ returns c =
     let two = c .before .before .before .before .before .before .put in
     let three = c .before .before .put-decimal2 in
     pair-wrote (a .at) (a .x) (a .y) (a .output .now) _ _ _ _ _ _ (c .before .before .before .before .before .before .before .before .before .before .before .before .before .before .pre)
-        (subst (λ z. Wrote (a .at) (decimal z) (a .output .now) (one .last .0) (one .result)) ex (one .ensures))
-        (two .ensures)
-        (subst (λ z. Wrote (two .result) (decimal z) (two .last .0) (three .last .0) (three .result)) ey (three .ensures))
+    (subst (λ z. Wrote (a .at) (decimal z) (a .output .now) (one .last .0) (one .result)) ex (one .ensures))
+    (two .ensures)
+    (subst (λ z. Wrote (two .result) (decimal z) (two .last .0) (three .last .0) (three .result)) ey (three .ensures))
 
 pub put-pair-spec : {M : Type 1} → statement M
 put-pair-spec =

@@ -73,9 +73,10 @@ part-put-ring-end c =
 put-ring-requires : tie.Need-put-ring-requires Inv-loop μ-loop
 put-ring-requires c κs =
     let a = c .before .before .before .before .before .before .before .before .before .before .before .args in
-    let l = c .before .before .before .before .before .before .before .before .loop in
-    (part-some (a .coordinates .now) (a .lengths .now) (c .before .before .before .before .before .before .before .before .before .before .before .pre .0) (l .first) (l .i) (l .inv .here) (c .before .before .before .before .before .before .before .loop-test .taken),
-     after-lead-room (a .coordinates .now) (a .lengths .now) (c .before .before .before .before .before .before .before .before .before .before .before .pre .0) (c .before .before .before .before .before .before .before .before .before .before .before .pre .1) (a .at) (a .output .now) (c .before .before .before .before .before .before .before .before .before .before .before .pre .2) (l .output) (l .place) (l .first) (l .i) (l .inv) (c .before .before .before .before .before .before .before .loop-test .taken) _ _ (c .before .before .before .before .put-lead .ensures))
+    let l = c .before .before .before .before .before .before .before .before .loop in (
+      part-some (a .coordinates .now) (a .lengths .now) (c .before .before .before .before .before .before .before .before .before .before .before .pre .0) (l .first) (l .i) (l .inv .here) (c .before .before .before .before .before .before .before .loop-test .taken),
+      after-lead-room (a .coordinates .now) (a .lengths .now) (c .before .before .before .before .before .before .before .before .before .before .before .pre .0) (c .before .before .before .before .before .before .before .before .before .before .before .pre .1) (a .at) (a .output .now) (c .before .before .before .before .before .before .before .before .before .before .before .pre .2) (l .output) (l .place) (l .first) (l .i) (l .inv) (c .before .before .before .before .before .before .before .loop-test .taken) _ _ (c .before .before .before .before .put-lead .ensures),
+    )
 
 add-i : tie.Need-add-i Inv-loop μ-loop
 add-i c = search needs

@@ -87,10 +87,11 @@ part-put-polygon-end c = search needs
 put-polygon-requires : tie.Need-put-polygon-requires Inv-loop μ-loop
 put-polygon-requires c κs =
     let a = c .before .before .before .before .before .before .before .before .before .before .before .before .before .args in
-    let l = c .before .before .before .before .before .before .before .before .before .loop in
-    (part-rings (a .coordinates .now) (a .lengths .now) (a .counts .now) (c .before .before .before .before .before .before .before .before .before .before .before .before .before .pre .0) (l .first) (l .ring) (l .i) (l .inv .here) (c .before .before .before .before .before .before .before .before .loop-test .taken),
-     part-rings-some (a .coordinates .now) (a .lengths .now) (a .counts .now) (c .before .before .before .before .before .before .before .before .before .before .before .before .before .pre .0) (l .first) (l .ring) (l .i) (l .inv .here) (c .before .before .before .before .before .before .before .before .loop-test .taken),
-     after-lead-room (a .coordinates .now) (a .lengths .now) (a .counts .now) (c .before .before .before .before .before .before .before .before .before .before .before .before .before .pre .0) (a .at) (a .output .now) (c .before .before .before .before .before .before .before .before .before .before .before .before .before .pre .1) (l .output) (l .place) (l .first) (l .ring) (l .i) (l .inv) (c .before .before .before .before .before .before .before .before .loop-test .taken) _ _ (c .before .before .before .before .put-lead .ensures))
+    let l = c .before .before .before .before .before .before .before .before .before .loop in (
+      part-rings (a .coordinates .now) (a .lengths .now) (a .counts .now) (c .before .before .before .before .before .before .before .before .before .before .before .before .before .pre .0) (l .first) (l .ring) (l .i) (l .inv .here) (c .before .before .before .before .before .before .before .before .loop-test .taken),
+      part-rings-some (a .coordinates .now) (a .lengths .now) (a .counts .now) (c .before .before .before .before .before .before .before .before .before .before .before .before .before .pre .0) (l .first) (l .ring) (l .i) (l .inv .here) (c .before .before .before .before .before .before .before .before .loop-test .taken),
+      after-lead-room (a .coordinates .now) (a .lengths .now) (a .counts .now) (c .before .before .before .before .before .before .before .before .before .before .before .before .before .pre .0) (a .at) (a .output .now) (c .before .before .before .before .before .before .before .before .before .before .before .before .before .pre .1) (l .output) (l .place) (l .first) (l .ring) (l .i) (l .inv) (c .before .before .before .before .before .before .before .before .loop-test .taken) _ _ (c .before .before .before .before .put-lead .ensures),
+    )
 
 corner-count-requires : tie.Need-corner-count-requires Inv-loop μ-loop
 corner-count-requires c κs =
