@@ -1,4 +1,5 @@
 pub mod Parts
+pub mod Sums
 pub mod Leads
 pub mod Pairs
 pub mod Corners
@@ -6,3 +7,4 @@ pub mod Slices
 pub mod Polygons
 pub mod Members
 pub mod Whole
+pub mod Numbers

@@ -5,7 +5,7 @@ use Prim.Native.Nat.{ℕ, zero, suc, _+_, _-_, _*_, _≤_, _<_}
 use native.Mathlib.Numerals.{add-one}
 use native.Mathlib.Omega.{arith}
 use lib.IntN.{ℤ}
-use lib.ListN.{length, getD, take, drop, length-drop, drop-of-length-le}
+use lib.ListN.{length, getD, take, drop, length-drop}
 use lib.Seq.{take-nil, drop-nil, drop-cons, drop-drop}
 use Rattle.geom.specs.declared.Point.{Point}
 use Rattle.rules.specs.Lists.{total, partsOf}
@@ -99,28 +99,3 @@ corners-part from n xs =
     ap (λ k. cornersOf (take k (drop (2 * from) xs))) (let e : 2 * (from + n) - 2 * from ≡ 2 * n = omega arith in e)
     ∙ corners-take n (drop (2 * from) xs)
     ∙ ap (take n) (sym (corners-drop xs from))
-
--- ---- a sum, number by number
-
--- the numbers before number i sum to `sum`
-pub record Summed (ls : List ℕ) (sum i : ℕ) : Type 0 where
-  pub few : i ≤ length ls
-  pub all : sum + total (drop i ls) ≡ total ls
-
-pub summed : (ls : List ℕ) → Summed ls 0 0
-summed ls = record { few = omega arith; all = omega arith }
-
-module _ (ls : List ℕ) (sum i : ℕ) (s : Summed ls sum i) where
-  number-here : i < length ls → total (drop i ls) ≡ getD ls i 0 + total (drop (i + 1) ls)
-  unfolding total
-  number-here h = ap total (drop-cons ls i 0 h) ∙ ap (λ j. getD ls i 0 + total (drop j ls)) (sym (add-one i))
-
-  pub summed-on : i < length ls → Summed ls (sum + getD ls i 0) (i + 1)
-  summed-on h = let n = number-here h in let a = s .all in record { few = omega (arith, h); all = omega (arith, n, a) }
-
-  pub sum-within : i < length ls → sum + getD ls i 0 ≤ total ls
-  sum-within h = let n = number-here h in let a = s .all in omega (arith, n, a)
-
-  pub summed-up : length ls ≤ i → sum ≡ total ls
-  unfolding total
-  summed-up h = let a = s .all in let e = ap total (drop-of-length-le ls h) in omega (arith, a, e)

@@ -11,6 +11,8 @@ ghost use Rattle.writer.specs.Drawn.{lead, leads, Rings, closedRings, cl
 use fields::write::put;
 use fields::write::put_decimal;
 
+pub mod lengths;
+
 // Writes a position.
 fn put_pair(output: &mut [u8], at: usize, x: i64, y: i64) -> usize
     requires { ⌜ at + length (pairText (record { x = x; y = y })) ≤ length (now output) ⌝ }

@@ -1,8 +1,13 @@
 -- `writer::corner_count` meets its contract.
+use mathlib.Core.Path.{ap, _∙_}
+use Prim.Native.Nat.{_≤_}
+use lib.ListN.{getD, drop-of-length-le}
+use lib.Seq.{drop-cons}
+use Rattle.rules.specs.Lists.{total}
+use Rattle.writer.proofs.Sums.{map-same, Summed, summed, summed-on, sum-within, summed-up}
 use Prim.Native.Nat.{_-_}
 use native.Mathlib.Omega.{arith}
 use lib.ListN.{length}
-use Rattle.writer.proofs.Parts.{Summed, summed, summed-on, sum-within, summed-up}
 use borrow.Author.Needs.{needs}
 use Rattle.writer.proofs.corner_count.Statement.{statement}
 use Rattle.writer.proofs.corner_count.Tie as tie
@@ -10,13 +15,13 @@ use Rattle.writer.proofs.corner_count.Reads as reads
 use Rattle.writer.proofs.corner_count.Lts as lts
 
 abbrev Inv-loop : tie.InvT-loop
-Inv-loop lengths sum₀ i₀ sum i = Summed lengths sum i
+Inv-loop lengths sum₀ i₀ sum i = (i ≤ length lengths) × Summed (λ n. n) lengths sum i
 
 abbrev μ-loop : tie.MeasureT-loop
 μ-loop lengths sum₀ i₀ sum i = length lengths - i
 
 loop-holds : tie.Need-loop-holds Inv-loop μ-loop
-loop-holds c = summed (c .args .lengths .now)
+loop-holds c = (omega arith, summed (λ n. n) (c .args .lengths .now))
 
 mul-sum : tie.Need-mul-sum Inv-loop μ-loop
 mul-sum c = search needs
@@ -25,7 +30,10 @@ shared-slice-read-sum : tie.Need-shared-slice-read-sum Inv-loop μ-loop
 shared-slice-read-sum c = search needs
 
 add-sum : tie.Need-add-sum Inv-loop μ-loop
-add-sum c = omega (arith, c .before .before .before .pre, sum-within (c .before .before .before .args .lengths .now) (c .before .before .loop .sum) (c .before .before .loop .i) (c .before .before .loop .inv) (c .before .loop-test .taken))
+add-sum c =
+    let xs = c .before .before .before .args .lengths .now in
+    let l = c .before .before .loop in
+    omega (arith, c .before .before .before .pre, ap total (map-same xs), sum-within (λ n. n) xs (l .sum) (l .i) (l .inv .1) (getD xs (l .i) 0) (drop-cons xs (l .i) 0 (c .before .loop-test .taken)))
 
 add-i : tie.Need-add-i Inv-loop μ-loop
 add-i c = search needs
@@ -34,10 +42,16 @@ loop-less : tie.Need-loop-less Inv-loop μ-loop
 loop-less c = search needs
 
 loop-again : tie.Need-loop-again Inv-loop μ-loop
-loop-again c = summed-on (c .before .before .before .args .lengths .now) (c .before .before .loop .sum) (c .before .before .loop .i) (c .before .before .loop .inv) (c .before .loop-test .taken)
+loop-again c =
+    let xs = c .before .before .before .args .lengths .now in
+    let l = c .before .before .loop in
+    (omega (arith, c .before .loop-test .taken), summed-on (λ n. n) xs (l .sum) (l .i) (l .inv .1) (getD xs (l .i) 0) (drop-cons xs (l .i) 0 (c .before .loop-test .taken)))
 
 returns : tie.Need-returns Inv-loop μ-loop
-returns c = summed-up (c .before .before .args .lengths .now) (c .before .loop .sum) (c .before .loop .i) (c .before .loop .inv) (c .loop-test .left)
+returns c =
+    let xs = c .before .before .args .lengths .now in
+    let l = c .before .loop in
+    summed-up (λ n. n) xs (l .sum) (l .i) (l .inv .1) (drop-of-length-le xs {i = l .i} (c .loop-test .left)) ∙ ap total (map-same xs)
 
 pub corner-count-spec : {M : Type 1} → statement M
 corner-count-spec =
