@@ -8,3 +8,4 @@ pub mod Polygons
 pub mod Members
 pub mod Whole
 pub mod Numbers
+pub mod Measures

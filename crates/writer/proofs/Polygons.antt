@@ -22,7 +22,7 @@ pub record Drawing (coordinates : List ℤ) (lengths : List ℕ) (at : ℕ) (o o
 pub drawing : (coordinates : List ℤ) (lengths : List ℕ) (at : ℕ) (o : List ℕ) → Drawing coordinates lengths at o o at 0 0
 drawing coordinates lengths at o = record { here = cut lengths (cornersOf coordinates); so-far = going ringText (closedRings coordinates lengths) at o }
 
-rings-count : (coordinates : List ℤ) (lengths : List ℕ) → length (closedRings coordinates lengths) ≡ length lengths
+pub rings-count : (coordinates : List ℤ) (lengths : List ℕ) → length (closedRings coordinates lengths) ≡ length lengths
 rings-count coordinates lengths = length-map (partsOf lengths (cornersOf coordinates)) closed ∙ parts-count lengths (cornersOf coordinates)
 
 module _ (coordinates : List ℤ) (lengths : List ℕ) (fine : Rings coordinates lengths) (some : 0 < length lengths) (at : ℕ) (o : List ℕ) (room : at + length (polygonText (closedRings coordinates lengths)) ≤ length o) where
