@@ -1,7 +1,7 @@
 -- The corners of a ring, and the ring closed. Assumes nothing.
-use mathlib.Core.Path.{_≡_, refl, ap, sym, subst, _∙_}
-use mathlib.Core.List.{List, [], _∷_, _++_, append-assoc}
-use Prim.Native.Nat.{ℕ, suc, _+_, _*_, _/_, _≤_, _<_}
+use mathlib.Core.Path.{_≡_, refl, ap, _∙_}
+use mathlib.Core.List.{List, [], _∷_, _++_}
+use Prim.Native.Nat.{ℕ, suc, _+_, _/_, _≤_, _<_}
 use native.Mathlib.Numerals.{add-one}
 use native.Mathlib.Omega.{arith}
 use lib.IntN.{ℤ}
@@ -9,7 +9,7 @@ use lib.ListN.{length, drop, drop-of-length-le}
 use Rattle.geom.specs.declared.Point.{Point}
 use Rattle.rules.specs.Plans.{cornersOf, cornerAt}
 use Rattle.rules.proofs.Corners.{corners-cons, corners-length}
-use Rattle.grammar.specs.Texts.{inBrackets, pairText, ringText, closed}
+use Rattle.grammar.specs.Texts.{pairText, ringText, closed}
 use Rattle.writer.specs.Drawn.{lead, leads}
 use Rattle.writer.proofs.Leads.{Three, brackets-leads, leads-more}
 

@@ -10,19 +10,18 @@ use lib.Seq.{length-take-le, take-add, take-all}
 use borrow.Author.Tests.{eqb-false}
 use Rattle.integers.proofs.Tests.{or-false}
 use Rattle.geom.specs.declared.Point.{Point}
-use Rattle.rules.specs.Lists.{anyOf, total, partsOf, isOdd}
+use Rattle.rules.specs.Lists.{anyOf, total, partsOf}
 use Rattle.rules.specs.Plans.{cornersOf, ringsOf, polygonsOf}
 use Rattle.rules.proofs.Corners.{corners-length}
 use Rattle.grammar.specs.Grammar.{Ring, Polygon}
-use Rattle.grammar.specs.Words.{multipolygon, empty}
 use Rattle.grammar.specs.Texts.{after, inBrackets, pairText, ringText, polygonText, closed, wktText, wktOf}
-use Rattle.writer.specs.Drawn.{listOf, Full, Drawn, Rings, closedRings, closedPolygons}
+use Rattle.writer.specs.Drawn.{Full, Drawn, Rings, closedRings, closedPolygons}
 use Rattle.writer.specs.Lengths.{AllFit, decimalsOf, ringLength, Decimals, RingLong, RingsLong, TextLong}
 use Rattle.writer.proofs.Parts.{Cut, cut, cut-one}
 use Rattle.writer.proofs.Sums.{Summed, summed, summed-on, summed-up}
 use Rattle.writer.proofs.Numbers.{fit-append}
 use Rattle.writer.proofs.Pairs.{pair-length}
-use Rattle.writer.proofs.Slices.{ringPart, part-reach, part-length, ring-here}
+use Rattle.writer.proofs.Slices.{ringPart, part-length, ring-here}
 use Rattle.writer.proofs.Polygons.{rings-count}
 use Rattle.writer.proofs.Members.{corners-sum, rings-sum, coordinates-even, counts-full, polygons-count}
 use Rattle.writer.proofs.Whole.{no-polygons}

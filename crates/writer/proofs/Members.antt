@@ -1,13 +1,14 @@
 -- The polygons of a list written one after another. Assumes nothing.
 use mathlib.Core.Path.{_≡_, refl, ap, ap₂, sym, subst, _∙_}
 use mathlib.Core.Bool.{false, not}
-use mathlib.Core.List.{List, [], _∷_, _++_, map}
-use Prim.Native.Nat.{ℕ, suc, _+_, _-_, _*_, _/_, _^_, _≤_, _<_}
+use mathlib.Core.List.{List, _∷_, _++_, map}
+use Prim.Native.Nat.{ℕ, suc, _+_, _-_, _*_, _%_, _^_, _≤_, _<_}
 use native.Mathlib.Omega.{arith}
 use lib.Dec.{eqb}
 use lib.IntN.{ℤ}
 use lib.ListN.{length, getD, take, drop, length-map, length-drop, drop-of-length-le}
 use lib.Seq.{take-all, length-take-le}
+use borrow.Author.Tests.{eqb-false}
 use Rattle.integers.proofs.Tests.{or-false}
 use Rattle.fields.specs.Written.{Wrote}
 use Rattle.rules.specs.Lists.{isOdd, total, partsOf}
@@ -40,6 +41,13 @@ module _ (coordinates : List ℤ) (lengths counts : List ℕ) (d : Drawn coordin
   pub coordinates-even : isOdd (length coordinates) ≡ false
   unfolding uneven
   coordinates-even = or-false (isOdd (length coordinates)) _ (accepted-passes (listOf coordinates lengths counts) (d .accepted) .1) .0
+
+  pub coordinates-few : length coordinates ≤ 2 ^ 21
+  coordinates-few =
+      let odd = eqb-false (length coordinates % 2) 1 coordinates-even in
+      let f = corners-few in
+      let l = corners-length coordinates in
+      omega (arith, odd, f, l)
 
   -- every polygon has a ring
   pub counts-full : Full counts

@@ -1,12 +1,12 @@
 -- Numbers of 64 bits and the bytes of their decimal texts. Assumes nothing.
 use mathlib.Core.Path.{_≡_, refl, ap, sym, subst, _∙_}
-use mathlib.Core.Bool.{Bool, true, false, not, _||_}
-use mathlib.Core.List.{List, [], _∷_, _++_, map}
-use Prim.Native.Nat.{ℕ, suc, _+_, _*_, _^_, _≤_, _<_}
+use mathlib.Core.Bool.{true, not, _||_}
+use mathlib.Core.List.{List, [], _∷_, _++_}
+use Prim.Native.Nat.{ℕ, _+_, _*_, _^_, _≤_, _<_}
 use native.Mathlib.Omega.{arith}
 use borrow.Author.Tests.{lt-ltb}
 use lib.IntN.{ℤ, pos, negsuc}
-use lib.ListN.{length, getD, drop, drop-of-length-le}
+use lib.ListN.{length, getD, drop-of-length-le}
 use lib.Seq.{drop-cons}
 use mir.Syntax.{w64}
 use mir.Val.{SFits}
@@ -15,7 +15,7 @@ use Rattle.fields.specs.Decimals.{decimal, fitsWord}
 use Rattle.fields.proofs.Signs.{decimal-short}
 use Rattle.rules.specs.Lists.{anyOf}
 use Rattle.plans.proofs.Searches.{Undecided, passed, none, element}
-use Rattle.writer.specs.Lengths.{unfit, AllFit, decimalsOf, Decimals}
+use Rattle.writer.specs.Lengths.{unfit, AllFit, Decimals}
 use Rattle.writer.proofs.Sums.{Summed, summed, summed-on, summed-up}
 
 pub word-fits : (z : ℤ) → SFits w64 z → fitsWord z ≡ true

@@ -1,13 +1,12 @@
 -- A list cut into parts: the parts from one of them on, and where it begins. Assumes nothing.
 use mathlib.Core.Path.{_≡_, refl, sym, ap, ap₂, subst, _∙_}
-use mathlib.Core.List.{List, [], _∷_, map}
+use mathlib.Core.List.{List, [], _∷_}
 use Prim.Native.Nat.{ℕ, zero, suc, _+_, _-_, _*_, _≤_, _<_}
 use native.Mathlib.Numerals.{add-one}
 use native.Mathlib.Omega.{arith}
 use lib.IntN.{ℤ}
-use lib.ListN.{length, getD, take, drop, length-drop}
-use lib.Seq.{take-nil, drop-nil, drop-cons, drop-drop}
-use Rattle.geom.specs.declared.Point.{Point}
+use lib.ListN.{length, getD, take, drop}
+use lib.Seq.{drop-cons, drop-drop}
 use Rattle.rules.specs.Lists.{total, partsOf}
 use Rattle.rules.specs.Plans.{cornersOf}
 use Rattle.rules.proofs.Corners.{corners-drop}

@@ -11,8 +11,6 @@ use lib.ListN.{length}
 use borrow.Author.Needs.{needs}
 use Rattle.writer.proofs.corner_count.Statement.{statement}
 use Rattle.writer.proofs.corner_count.Tie as tie
-use Rattle.writer.proofs.corner_count.Reads as reads
-use Rattle.writer.proofs.corner_count.Lts as lts
 
 abbrev Inv-loop : tie.InvT-loop
 Inv-loop lengths sum₀ i₀ sum i = (i ≤ length lengths) × Summed (λ n. n) lengths sum i

@@ -16,9 +16,6 @@ use Rattle.writer.proofs.Corners.{corner-here, corners-over}
 use borrow.Author.Needs.{needs}
 use Rattle.writer.proofs.put_corners.Statement.{statement}
 use Rattle.writer.proofs.put_corners.Tie as tie
-use Rattle.writer.proofs.put_corners.Reads as reads
-use Rattle.writer.proofs.put_corners.Lts as lts
-use Rattle.writer.proofs.put_next.Reads as put-next-reads
 
 abbrev Inv-loop : tie.InvT-loop
 Inv-loop output₀ at ring corners place₀ i₀ output place i = (i ≤ length ring / 2) × Going pairText (cornersOf ring) at output₀ output place i

@@ -1,5 +1,5 @@
 -- `writer::put_lead` meets its contract.
-use mathlib.Core.Path.{ap, subst, sym}
+use mathlib.Core.Path.{subst, sym}
 use Prim.Native.Nat.{_+_, _≤_}
 use lib.ListN.{length}
 use Rattle.fields.specs.Written.{Wrote}
@@ -7,9 +7,6 @@ use Rattle.writer.proofs.Leads.{lead-first, lead-later}
 use borrow.Author.Needs.{needs}
 use Rattle.writer.proofs.put_lead.Statement.{statement}
 use Rattle.writer.proofs.put_lead.Tie as tie
-use Rattle.writer.proofs.put_lead.Reads as reads
-use Rattle.writer.proofs.put_lead.Lts as lts
-use Rattle.fields.proofs.write.put.Reads as put-reads
 
 slice-aggregate-put : tie.Need-slice-aggregate-put
 slice-aggregate-put c = search needs

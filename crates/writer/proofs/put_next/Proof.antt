@@ -11,10 +11,6 @@ use Rattle.writer.proofs.Leads.{first-room, second-room, wrote-both}
 use borrow.Author.Needs.{needs}
 use Rattle.writer.proofs.put_next.Statement.{statement}
 use Rattle.writer.proofs.put_next.Tie as tie
-use Rattle.writer.proofs.put_next.Reads as reads
-use Rattle.writer.proofs.put_next.Lts as lts
-use Rattle.writer.proofs.put_lead.Reads as put-lead-reads
-use Rattle.writer.proofs.put_pair.Reads as put-pair-reads
 
 put-lead-requires : tie.Need-put-lead-requires
 put-lead-requires c κs = let a = c .before .before .args in first-room (a .at) (lead (a .i)) (pairText (record { x = a .x; y = a .y })) (a .output .now) (c .before .before .pre)

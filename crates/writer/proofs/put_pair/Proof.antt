@@ -1,6 +1,5 @@
 -- `writer::put_pair` meets its contract.
 use mathlib.Core.Path.{_≡_, ap, subst}
-use Prim.Native.Nat.{_+_}
 use native.Mathlib.Omega.{arith}
 use mir.Syntax.{w64}
 use mir.Val.{toZ, ofZ}
@@ -11,10 +10,6 @@ use Rattle.writer.proofs.Pairs.{pair-length, pair-wrote}
 use borrow.Author.Needs.{needs}
 use Rattle.writer.proofs.put_pair.Statement.{statement}
 use Rattle.writer.proofs.put_pair.Tie as tie
-use Rattle.writer.proofs.put_pair.Reads as reads
-use Rattle.writer.proofs.put_pair.Lts as lts
-use Rattle.fields.proofs.write.put.Reads as put-reads
-use Rattle.fields.proofs.write.put_decimal.Reads as put-decimal-reads
 
 put-decimal-requires : tie.Need-put-decimal-requires
 put-decimal-requires c κs =

@@ -7,11 +7,6 @@ use Rattle.writer.proofs.Polygons.{Drawing, drawing, drawing-kept, lead
 use borrow.Author.Needs.{needs}
 use Rattle.writer.proofs.put_polygon.Statement.{statement}
 use Rattle.writer.proofs.put_polygon.Tie as tie
-use Rattle.writer.proofs.put_polygon.Reads as reads
-use Rattle.writer.proofs.put_polygon.Lts as lts
-use Rattle.fields.proofs.write.put.Reads as put-reads
-use Rattle.writer.proofs.put_lead.Reads as put-lead-reads
-use Rattle.writer.proofs.put_ring.Reads as put-ring-reads
 
 abbrev Inv-loop : tie.InvT-loop
 Inv-loop output₀ at coordinates lengths place₀ first₀ i₀ t10 output place first i = Drawing coordinates lengths at output₀ output place first i

@@ -6,11 +6,6 @@ use Rattle.writer.proofs.Members.{corners-few, first-reach, rings-reach
 use borrow.Author.Needs.{needs}
 use Rattle.writer.proofs.put_polygons.Statement.{statement}
 use Rattle.writer.proofs.put_polygons.Tie as tie
-use Rattle.writer.proofs.put_polygons.Reads as reads
-use Rattle.writer.proofs.put_polygons.Lts as lts
-use Rattle.writer.proofs.corner_count.Reads as corner-count-reads
-use Rattle.writer.proofs.put_lead.Reads as put-lead-reads
-use Rattle.writer.proofs.put_polygon.Reads as put-polygon-reads
 
 abbrev Inv-loop : tie.InvT-loop
 Inv-loop output₀ at coordinates lengths counts place₀ first₀ ring₀ i₀ output place first ring i = Listing coordinates lengths counts at output₀ output place first ring i

@@ -1,13 +1,12 @@
 -- `writer::put_ring` meets its contract.
 use mathlib.Core.Path.{_≡_, ap₂, subst, sym}
 use Prim.Native.Nat.{_+_, _≤_}
-use mathlib.Core.List.{[], _∷_, _++_}
+use mathlib.Core.List.{_++_}
 use mir.Syntax.{w64}
 use mir.Val.{toZ, ofZ}
 use lib.IntN.{pos}
 use lib.ListN.{length, getD}
 use Rattle.fields.specs.Written.{Wrote}
-use Rattle.rules.specs.Plans.{cornerAt}
 use Rattle.grammar.specs.Texts.{pairText}
 use Rattle.writer.specs.Drawn.{lead}
 use Rattle.writer.proofs.Corners.{ring-parts}
@@ -15,11 +14,6 @@ use Rattle.writer.proofs.Leads.{room-one, room-two, room-three, wrote-t
 use borrow.Author.Needs.{needs}
 use Rattle.writer.proofs.put_ring.Statement.{statement}
 use Rattle.writer.proofs.put_ring.Tie as tie
-use Rattle.writer.proofs.put_ring.Reads as reads
-use Rattle.writer.proofs.put_ring.Lts as lts
-use Rattle.fields.proofs.write.put.Reads as put-reads
-use Rattle.writer.proofs.put_corners.Reads as put-corners-reads
-use Rattle.writer.proofs.put_next.Reads as put-next-reads
 
 shared-slice-copy-out-x : tie.Need-shared-slice-copy-out-x
 shared-slice-copy-out-x c = search needs

@@ -1,6 +1,6 @@
 -- `writer::put_text` meets its contract.
 use mathlib.Core.Path.{subst, sym}
-use Prim.Native.Nat.{_+_, _≤_}
+use Prim.Native.Nat.{_≤_}
 use native.Mathlib.Omega.{arith}
 use lib.ListN.{length}
 use Rattle.fields.specs.Written.{Wrote}
@@ -9,10 +9,6 @@ use Rattle.writer.proofs.Whole.{no-polygons, some-polygons}
 use borrow.Author.Needs.{needs}
 use Rattle.writer.proofs.put_text.Statement.{statement}
 use Rattle.writer.proofs.put_text.Tie as tie
-use Rattle.writer.proofs.put_text.Reads as reads
-use Rattle.writer.proofs.put_text.Lts as lts
-use Rattle.fields.proofs.write.put.Reads as put-reads
-use Rattle.writer.proofs.put_polygons.Reads as put-polygons-reads
 
 slice-aggregate-put : tie.Need-slice-aggregate-put
 slice-aggregate-put c = search needs

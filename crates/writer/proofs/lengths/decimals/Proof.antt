@@ -11,9 +11,6 @@ use Rattle.writer.proofs.Numbers.{Counting, counting, number-short, cou
 use borrow.Author.Needs.{needs}
 use Rattle.writer.proofs.lengths.decimals.Statement.{statement}
 use Rattle.writer.proofs.lengths.decimals.Tie as tie
-use Rattle.writer.proofs.lengths.decimals.Reads as reads
-use Rattle.writer.proofs.lengths.decimals.Lts as lts
-use Rattle.fields.proofs.write.decimal_length.Reads as decimal-length-reads
 
 abbrev Inv-loop : tie.InvT-loop
 Inv-loop numbers sum₀ i₀ sum i = Counting numbers sum i

@@ -3,9 +3,6 @@ use Rattle.writer.proofs.Measures.{ring-counted}
 use borrow.Author.Needs.{needs}
 use Rattle.writer.proofs.lengths.ring_length.Statement.{statement}
 use Rattle.writer.proofs.lengths.ring_length.Tie as tie
-use Rattle.writer.proofs.lengths.ring_length.Reads as reads
-use Rattle.writer.proofs.lengths.ring_length.Lts as lts
-use Rattle.writer.proofs.lengths.decimals.Reads as decimals-reads
 
 decimals-requires : tie.Need-decimals-requires
 decimals-requires c κs = search needs

@@ -7,9 +7,6 @@ use Rattle.writer.proofs.Measures.{Measuring, measuring, part-even, par
 use borrow.Author.Needs.{needs}
 use Rattle.writer.proofs.lengths.rings_length.Statement.{statement}
 use Rattle.writer.proofs.lengths.rings_length.Tie as tie
-use Rattle.writer.proofs.lengths.rings_length.Reads as reads
-use Rattle.writer.proofs.lengths.rings_length.Lts as lts
-use Rattle.writer.proofs.lengths.ring_length.Reads as ring-length-reads
 
 abbrev Inv-loop : tie.InvT-loop
 Inv-loop coordinates lengths sum₀ first₀ i₀ sum first i = Measuring coordinates lengths sum first i
@@ -65,10 +62,11 @@ part-ring-length-end c =
 ring-length-requires : tie.Need-ring-length-requires Inv-loop μ-loop
 ring-length-requires c κs =
     let a = c .before .before .before .before .before .args in
-    let l = c .before .before .before .loop in
-    (part-some (a .coordinates .now) (a .lengths .now) (c .before .before .before .before .before .pre .0) (l .first) (l .i) (l .inv .here) (c .before .before .loop-test .taken),
-     omega (arith, part-length (a .coordinates .now) (a .lengths .now) (c .before .before .before .before .before .pre .0) (l .first) (l .i) (l .inv .here) (c .before .before .loop-test .taken), part-reach (a .coordinates .now) (a .lengths .now) (c .before .before .before .before .before .pre .0) (l .first) (l .i) (l .inv .here) (c .before .before .loop-test .taken), c .before .before .before .before .before .pre .1),
-     part-even (a .coordinates .now) (a .lengths .now) (c .before .before .before .before .before .pre .0) (l .sum) (l .first) (l .i) (l .inv) (c .before .before .loop-test .taken))
+    let l = c .before .before .before .loop in (
+      part-some (a .coordinates .now) (a .lengths .now) (c .before .before .before .before .before .pre .0) (l .first) (l .i) (l .inv .here) (c .before .before .loop-test .taken),
+      omega (arith, part-length (a .coordinates .now) (a .lengths .now) (c .before .before .before .before .before .pre .0) (l .first) (l .i) (l .inv .here) (c .before .before .loop-test .taken), part-reach (a .coordinates .now) (a .lengths .now) (c .before .before .before .before .before .pre .0) (l .first) (l .i) (l .inv .here) (c .before .before .loop-test .taken), c .before .before .before .before .before .pre .1),
+      part-even (a .coordinates .now) (a .lengths .now) (c .before .before .before .before .before .pre .0) (l .sum) (l .first) (l .i) (l .inv) (c .before .before .loop-test .taken),
+    )
 
 add-sum : tie.Need-add-sum Inv-loop μ-loop
 add-sum c =
