@@ -21,7 +21,7 @@ lead-later (suc i) h = refl
 pub wrote-both : (at : ℕ) (a b o o′ o″ : List ℕ) (m r : ℕ) → at + length (a ++ b) ≤ length o → Wrote at a o o′ m → Wrote m b o′ o″ r → Wrote at (a ++ b) o o″ r
 wrote-both at a b o o′ o″ m r h f g = let l = length-append a b in wrote-on at a o (omega (arith, h, l)) b o′ o″ m r f g
 
-pub wrote-length : (at : ℕ) (a o o′ : List ℕ) (m : ℕ) → at + length a ≤ length o → Wrote at a o o′ m → length o′ ≡ length o
+wrote-length : (at : ℕ) (a o o′ : List ℕ) (m : ℕ) → at + length a ≤ length o → Wrote at a o o′ m → length o′ ≡ length o
 wrote-length at a o o′ m h f = ap length (f .whole) ∙ overwritten-length at a o h
 
 -- room for the second

@@ -9,3 +9,4 @@ pub mod Members
 pub mod Whole
 pub mod Numbers
 pub mod Measures
+pub mod Back

@@ -29,7 +29,7 @@ use Rattle.writer.proofs.Whole.{no-polygons}
 -- ---- in brackets: two bytes an item, and the items
 
 module _ {A : Type 0} (text : A → List ℕ) where
-  abbrev pub weigh : List A → ℕ
+  abbrev weigh : List A → ℕ
   weigh items = total (map (λ item. length (text item)) items)
 
   after-length : (items : List A) → length (after text items) ≡ 1 + 2 * length items + weigh items
@@ -37,7 +37,7 @@ module _ {A : Type 0} (text : A → List ℕ) where
   after-length [] = refl
   after-length (item ∷ items) = let l = length-append (text item) (after text items) in let h = after-length items in omega (arith, l, h)
 
-  pub brackets-length : (items : List A) → 0 < length items → length (inBrackets text items) ≡ 2 * length items + weigh items
+  brackets-length : (items : List A) → 0 < length items → length (inBrackets text items) ≡ 2 * length items + weigh items
   unfolding inBrackets total
   brackets-length [] h = absurd (omega arith)
   brackets-length (item ∷ items) h = let l = length-append (text item) (after text items) in let e = after-length items in omega (arith, l, e)
@@ -101,7 +101,7 @@ module _ (coordinates : List ℤ) (lengths : List ℕ) (fine : Rings coordinates
     abbrev n : ℕ
     n = getD lengths i 0
 
-    pub part-corners : length (cornersOf (ringPart coordinates first (getD lengths i 0))) ≡ getD lengths i 0
+    part-corners : length (cornersOf (ringPart coordinates first (getD lengths i 0))) ≡ getD lengths i 0
     part-corners = let l = corners-length (ringPart coordinates first n) in let p = part-length coordinates lengths fine first i (k .here) h in omega (arith, l, p)
 
     pub part-even : 2 * length (cornersOf (ringPart coordinates first (getD lengths i 0))) ≡ length (ringPart coordinates first (getD lengths i 0))

@@ -84,7 +84,7 @@ pub record Spot (coordinates : List ℤ) (lengths counts : List ℕ) (first ring
   pub polygon : Cut counts (partsOf lengths (cornersOf coordinates)) i ring
   pub corner : Cut lengths (cornersOf coordinates) ring first
 
-pub spot : (coordinates : List ℤ) (lengths counts : List ℕ) → Spot coordinates lengths counts 0 0 0
+spot : (coordinates : List ℤ) (lengths counts : List ℕ) → Spot coordinates lengths counts 0 0 0
 spot coordinates lengths counts = record { polygon = cut counts (partsOf lengths (cornersOf coordinates)); corner = cut lengths (cornersOf coordinates) }
 
 module _ (coordinates : List ℤ) (lengths counts : List ℕ) (d : Drawn coordinates lengths counts) (first ring i : ℕ) (s : Spot coordinates lengths counts first ring i) where
@@ -108,7 +108,7 @@ module _ (coordinates : List ℤ) (lengths counts : List ℕ) (d : Drawn coordin
         let r = cut-many-reach lengths (cornersOf coordinates) ring first (s .corner) c (omega (arith, e)) in
         subst (λ part. first + total part ≤ length (cornersOf coordinates)) (sym (rings-part lengths ring c)) r
 
-    pub spot-on : Spot coordinates lengths counts (first + total (ringsPart lengths ring (getD counts i 0))) (ring + getD counts i 0) (i + 1)
+    spot-on : Spot coordinates lengths counts (first + total (ringsPart lengths ring (getD counts i 0))) (ring + getD counts i 0) (i + 1)
     spot-on =
         record {
           polygon = cut-one counts (partsOf lengths (cornersOf coordinates)) i ring (s .polygon) h;
@@ -131,7 +131,7 @@ module _ (coordinates : List ℤ) (lengths counts : List ℕ) (d : Drawn coordin
         omega (arith, f, l)
 
     -- polygon i is made of these rings, closed
-    pub polygon-here : drop i (closedPolygons coordinates lengths counts) ≡ closedRings (restPart coordinates first) (ringsPart lengths ring (getD counts i 0)) ∷ drop (suc i) (closedPolygons coordinates lengths counts)
+    polygon-here : drop i (closedPolygons coordinates lengths counts) ≡ closedRings (restPart coordinates first) (ringsPart lengths ring (getD counts i 0)) ∷ drop (suc i) (closedPolygons coordinates lengths counts)
     unfolding polygonsOf ringsOf
     polygon-here =
         map-here (map closed) (partsOf counts (partsOf lengths (cornersOf coordinates))) i _ (cut-item counts (partsOf lengths (cornersOf coordinates)) i ring (s .polygon) h)

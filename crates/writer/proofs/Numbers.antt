@@ -18,7 +18,7 @@ use Rattle.plans.proofs.Searches.{Undecided, passed, none, element}
 use Rattle.writer.specs.Lengths.{unfit, AllFit, Decimals}
 use Rattle.writer.proofs.Sums.{Summed, summed, summed-on, summed-up}
 
-pub word-fits : (z : ℤ) → SFits w64 z → fitsWord z ≡ true
+word-fits : (z : ℤ) → SFits w64 z → fitsWord z ≡ true
 word-fits (pos n) f = lt-ltb n (2 ^ 63) (f .sfits)
 word-fits (negsuc n) f = lt-ltb n (2 ^ 63) (f .sfits)
 

@@ -14,7 +14,7 @@ use Rattle.rules.proofs.Corners.{corners-drop}
 -- ---- parts
 
 module _ {A : Type 0} where
-  pub parts-take : (c : ℕ) (ls : List ℕ) (xs : List A) → take c (partsOf ls xs) ≡ partsOf (take c ls) xs
+  parts-take : (c : ℕ) (ls : List ℕ) (xs : List A) → take c (partsOf ls xs) ≡ partsOf (take c ls) xs
   unfolding partsOf
   parts-take zero ls xs = refl
   parts-take (suc c) [] xs = refl
@@ -31,7 +31,7 @@ module _ {A : Type 0} where
   parts-count [] xs = refl
   parts-count (n ∷ ls) xs = ap suc (parts-count ls (drop n xs))
 
-pub total-cut : (c : ℕ) (ls : List ℕ) → total ls ≡ total (take c ls) + total (drop c ls)
+total-cut : (c : ℕ) (ls : List ℕ) → total ls ≡ total (take c ls) + total (drop c ls)
 unfolding total
 total-cut zero ls = omega arith
 total-cut (suc c) [] = refl
@@ -85,7 +85,7 @@ module _ {A : Type 0} (ls : List ℕ) (xs : List A) where
 
 -- ---- corners
 
-pub corners-take : (n : ℕ) (xs : List ℤ) → cornersOf (take (2 * n) xs) ≡ take n (cornersOf xs)
+corners-take : (n : ℕ) (xs : List ℤ) → cornersOf (take (2 * n) xs) ≡ take n (cornersOf xs)
 unfolding cornersOf
 corners-take zero xs = refl
 corners-take (suc n) [] = ap (λ k. cornersOf (take k [])) (let e : 2 * suc n ≡ suc (suc (2 * n)) = omega arith in e)

@@ -36,7 +36,7 @@ full-drop zero ls e = e
 full-drop (suc c) [] e = refl
 full-drop (suc c) (n ∷ ls) e = full-drop c ls (or-false (eqb n 0) _ e .1)
 
-pub drop-map : {A B : Type 0} (f : A → B) (i : ℕ) (xs : List A) → drop i (map f xs) ≡ map f (drop i xs)
+drop-map : {A B : Type 0} (f : A → B) (i : ℕ) (xs : List A) → drop i (map f xs) ≡ map f (drop i xs)
 drop-map f zero xs = refl
 drop-map f (suc i) [] = refl
 drop-map f (suc i) (x ∷ xs) = drop-map f i xs

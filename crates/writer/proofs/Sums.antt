@@ -1,16 +1,11 @@
 -- A sum of weights over a list, item by item. Assumes nothing.
 use mathlib.Core.Path.{_≡_, refl, ap, sym, _∙_}
-use mathlib.Core.List.{List, [], _∷_, _++_, map}
+use mathlib.Core.List.{List, [], _∷_, map}
 use Prim.Native.Nat.{ℕ, suc, _+_, _≤_}
 use native.Mathlib.Numerals.{add-one}
 use native.Mathlib.Omega.{arith}
 use lib.ListN.{drop}
 use Rattle.rules.specs.Lists.{total}
-
-pub total-append : (a b : List ℕ) → total (a ++ b) ≡ total a + total b
-unfolding total
-total-append [] b = omega arith
-total-append (n ∷ a) b = let h = total-append a b in omega (arith, h)
 
 -- each number is its own weight
 pub map-same : (ns : List ℕ) → map (λ n. n) ns ≡ ns

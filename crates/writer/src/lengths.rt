@@ -21,7 +21,8 @@ fn decimals(numbers: &[i64]) -> usize
     sum
 }
 
-// How many bytes a ring has: the first corner twice, a comma and a space or a bracket and a half for each position, a space in it.
+// How many bytes a ring has: its numbers, those of its first corner again, and three bytes a position: the space in it and, of brackets, commas
+// and the spaces after them, two.
 fn ring_length(ring: &[i64]) -> usize
     requires { ⌜ (1 < length (now ring)) × (length (now ring) ≤ 2 ^ 21) × (2 * length (cornersOf (now ring)) ≡ length (now ring)) ⌝ }
     ensures { λ r. ⌜ RingLong (now (ring .entry)) r ⌝ }
