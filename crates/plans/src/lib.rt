@@ -64,8 +64,8 @@ fn sums_to(table: &[usize], n: usize) -> bool
     left == 0
 }
 
-// Whether some polygon has no rings.
-fn has_zero(counts: &[usize]) -> bool
+/// Whether some entry of a table is 0: among ring counts a polygon of no rings, among ring lengths an empty ring.
+pub fn has_zero(counts: &[usize]) -> bool
     ensures { λ r. ⌜ r ≡ anyOf (λ n. eqb n 0) (now (counts .entry)) ⌝ }
 {
     let mut i = 0;

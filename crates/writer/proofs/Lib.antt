@@ -1,0 +1,12 @@
+pub mod Parts
+pub mod Sums
+pub mod Leads
+pub mod Pairs
+pub mod Corners
+pub mod Slices
+pub mod Polygons
+pub mod Members
+pub mod Whole
+pub mod Numbers
+pub mod Measures
+pub mod Back
