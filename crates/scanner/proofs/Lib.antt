@@ -1,4 +1,3 @@
-mod Same
 mod Pairs
 pub mod Puts
 mod RingScans

@@ -79,7 +79,7 @@ module _ (size : Size) (corners rings polygons : ℕ) where
 -- ---- the numbers
 
 module _ (corners rings polygons : ℕ) where
-  room-number : (size : Size) → readingNumber (withRoom size corners rings polygons) ≡ cond (eqb (shortTable size corners rings polygons) 0) 0 11
+  pub room-number : (size : Size) → readingNumber (withRoom size corners rings polygons) ≡ cond (eqb (shortTable size corners rings polygons) 0) 0 11
   room-number size = go (ltb corners (2 * size .corners)) (ltb rings (size .rings)) (ltb polygons (size .polygons))
     where
       go : (a b c : Bool) → readingNumber (cond a (Refused (TableTooShort Corners)) (cond b (Refused (TableTooShort Rings)) (cond c (Refused (TableTooShort Polygons)) (Read size)))) ≡ cond (eqb (cond a 1 (cond b 2 (cond c 3 0))) 0) 0 11
@@ -88,7 +88,7 @@ module _ (corners rings polygons : ℕ) where
       go false false true = refl
       go false false false = refl
 
-  room-detail : (size : Size) → readingDetail (withRoom size corners rings polygons) ≡ shortTable size corners rings polygons
+  pub room-detail : (size : Size) → readingDetail (withRoom size corners rings polygons) ≡ shortTable size corners rings polygons
   room-detail size = go (ltb corners (2 * size .corners)) (ltb rings (size .rings)) (ltb polygons (size .polygons))
     where
       go : (a b c : Bool) → readingDetail (cond a (Refused (TableTooShort Corners)) (cond b (Refused (TableTooShort Rings)) (cond c (Refused (TableTooShort Polygons)) (Read size)))) ≡ cond a 1 (cond b 2 (cond c 3 0))
@@ -150,7 +150,7 @@ pub record Given (text : List ℕ) (corners rings polygons : ℕ) (size : Size) 
   pub ready : Ready (meaning text) corners rings polygons
 
 -- the plan is in its text, and there is room for it
-room-given : (corners rings polygons : ℕ) (plan : Plan) (size : Size) → length (plan .coordinates) ≡ 2 * total (plan .lengths) → Read size ≡ withRoom (sizeOf plan) corners rings polygons → (size ≡ sizeOf plan) × Ready (Gives plan) corners rings polygons
+pub room-given : (corners rings polygons : ℕ) (plan : Plan) (size : Size) → length (plan .coordinates) ≡ 2 * total (plan .lengths) → Read size ≡ withRoom (sizeOf plan) corners rings polygons → (size ≡ sizeOf plan) × Ready (Gives plan) corners rings polygons
 room-given corners rings polygons plan size even e = go (ltb corners (2 * sizeOf plan .corners)) (ltb rings (length (plan .lengths))) (ltb polygons (length (plan .counts))) refl refl refl e
   where
     go : (a b c : Bool) → ltb corners (2 * sizeOf plan .corners) ≡ a → ltb rings (length (plan .lengths)) ≡ b → ltb polygons (length (plan .counts)) ≡ c → Read size ≡ cond a (Refused (TableTooShort Corners)) (cond b (Refused (TableTooShort Rings)) (cond c (Refused (TableTooShort Polygons)) (Read (sizeOf plan)))) → (size ≡ sizeOf plan) × Ready (Gives plan) corners rings polygons

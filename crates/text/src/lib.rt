@@ -23,8 +23,8 @@ pub enum Reading {
     Refused(Refusal),
 }
 
-// The first table that is too short for a plan of this size, if any. The tables hold so many numbers.
-fn room(size: Size, corners: usize, rings: usize, polygons: usize) -> Reading
+/// Whether tables of so many numbers have room for a plan of this size: it, or 11 (`TableTooShort`) with the first that is too short.
+pub fn room(size: Size, corners: usize, rings: usize, polygons: usize) -> Reading
     ensures { λ r. ⌜ r ≡ withRoom size corners rings polygons ⌝ }
 {
     if corners / 2 < size.corners {

@@ -1,2 +1,3 @@
-// Well-Known Text (document 02, R-1): a list plan written.
+// Well-Known Text read into a plan's tables, and a plan written as Well-Known Text (document 02, R-1).
+pub mod read;
 pub mod write;

@@ -2,15 +2,14 @@
 use mathlib.Core.Path.{_≡_, refl, ap, ap₂, sym, _∙_}
 use mathlib.Core.Bool.{true, _&&_}
 use mathlib.Core.List.{List, [], _∷_, _++_, map}
-use Prim.Native.Nat.{ℕ, zero, suc, _+_, _/_, _%_, _≤_, _<_}
+use Prim.Native.Nat.{ℕ, zero, suc, _+_, _/_, _%_, _<_}
 use native.Mathlib.Omega.{arith}
 use lib.Dec.{eqb}
 use lib.IntN.{ℤ}
 use lib.ListN.{length, take, drop, length-drop}
 use lib.Seq.{length-take-le}
-use lib.Signed.{leZ, ≤ℤ-refl}
 use borrow.Author.Tests.{eqb-false}
-use Rattle.integers.proofs.Tests.{or-false, not-false, le-true}
+use Rattle.integers.proofs.Tests.{or-false, not-false}
 use Rattle.rules.specs.Lists.{anyOf, total, partsOf}
 use Rattle.rules.specs.Plans.{cornersOf, ringsOf, polygonsOf}
 use Rattle.fields.specs.Decimals.{fitsWord}
@@ -22,6 +21,7 @@ use Rattle.rules.specs.declared.Kind.the-variants.{Polygons}
 use Rattle.grammar.specs.Plans as Plans
 use Rattle.grammar.specs.Plans.{numbersOf, isClosed, allClosed, everyClosed, planSpelt}
 use Rattle.grammar.proofs.Texts.{All, Some, Fits, Writable, read-again}
+use Rattle.grammar.proofs.Same.{same-self}
 use Rattle.grammar.proofs.Tables.{closed-by}
 use Rattle.grammar.proofs.Again.{polygons, again, same-coordinates, same-lengths, same-counts, even-numbers}
 use Rattle.writer.specs.Drawn.{listOf, Full, Drawn, closedPolygons}
@@ -87,13 +87,10 @@ closed-fit (p ∷ ring) f = (f .0, all-more Fits ring p (f .1) (f .0))
 
 -- ---- rings that are closed
 
-same-number : (z : ℤ) → leZ z z ≡ true
-same-number z = le-true z z (≤ℤ-refl z)
-
 closed-closed : (ring : Ring) → Some Fits ring → isClosed (closed ring) ≡ true
 unfolding closed
 closed-closed [] f = absurd f
-closed-closed (p ∷ ring) f = closed-by p p ring ∙ ap₂ (λ a b. a && a && b && b) (same-number (p .x)) (same-number (p .y))
+closed-closed (p ∷ ring) f = closed-by p p ring ∙ ap₂ (λ a b. a && b) (same-self (p .x)) (same-self (p .y))
 
 rings-closed : (rings : Polygon) → All (Some Fits) rings → allClosed (map closed rings) ≡ true
 unfolding allClosed

@@ -1,7 +1,7 @@
 -- `scanner::rings::same_point` meets its contract.
 use mathlib.Core.Path.{ap₂}
 use mathlib.Core.Bool.{_&&_}
-use Rattle.scanner.proofs.Same.{words-same}
+use Rattle.grammar.proofs.Same.{words-same}
 use Rattle.scanner.proofs.rings.same_point.Statement.{statement}
 use Rattle.scanner.proofs.rings.same_point.Tie as tie
 

@@ -7,9 +7,9 @@ use borrow.Author.Tests.{eq-eqb, eqb-true, eqb-false}
 use mir.Syntax.{w64}
 use mir.Val.{SFits, toZ, ofZ}
 use mir.Facts.{toZ-ofZ}
 use Rattle.grammar.specs.Plans.{sameNumber}
 
-same-self : (z : ℤ) → sameNumber z z ≡ true
+pub same-self : (z : ℤ) → sameNumber z z ≡ true
 same-self (pos n) = eq-eqb n n refl
 same-self (negsuc n) = eq-eqb n n refl
 
