@@ -1,3 +1,4 @@
 pub mod Replies
 pub mod Exports
+pub mod WellKnown
 pub mod Sessions

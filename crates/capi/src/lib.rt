@@ -6,6 +6,7 @@ ghost use Rattle.capi.specs.Replies.{textReply, Roomy};
 pub mod exports;
 pub mod moves;
 pub mod reading;
+pub mod wellknown;
 
 use geom::Point;
 use query::locate;
