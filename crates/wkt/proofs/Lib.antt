@@ -1,3 +1,5 @@
 pub mod Readings
 pub mod Writings
 pub mod WrittenBack
+pub mod RoundTrip
+mod Caught

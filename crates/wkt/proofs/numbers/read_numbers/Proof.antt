@@ -1,7 +1,7 @@
 -- `wkt::numbers::read_numbers` meets its contract.
 use mathlib.Core.Path.{sym, ap, _∙_}
 use borrow.Author.Needs.{needs}
-use Rattle.wkt.specs.Numbers.{readNumbers, writeNumbers}
+use Rattle.wkt.specs.Numbers.{readNumbers}
 use Rattle.wkt.proofs.numbers.read_numbers.Statement.{statement}
 use Rattle.wkt.proofs.numbers.read_numbers.Tie as tie
 

@@ -1,7 +1,7 @@
 -- `wkt::numbers::write_numbers` meets its contract.
 use mathlib.Core.Path.{sym, ap, _∙_}
 use borrow.Author.Needs.{needs}
-use Rattle.wkt.specs.Numbers.{readNumbers, writeNumbers}
+use Rattle.wkt.specs.Numbers.{writeNumbers}
 use Rattle.wkt.proofs.numbers.write_numbers.Statement.{statement}
 use Rattle.wkt.proofs.numbers.write_numbers.Tie as tie
 
