@@ -1,3 +1,4 @@
+pub mod Few
 pub mod Readings
 pub mod Writings
 pub mod WrittenBack
