@@ -1,6 +1,6 @@
-pub mod Few
 pub mod Readings
 pub mod Writings
 pub mod WrittenBack
 pub mod RoundTrip
+pub mod Few
 mod Caught
