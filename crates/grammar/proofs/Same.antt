@@ -13,7 +13,7 @@ pub same-self : (z : ℤ) → sameNumber z z ≡ true
 same-self (pos n) = eq-eqb n n refl
 same-self (negsuc n) = eq-eqb n n refl
 
-same-is : (a b : ℤ) → sameNumber a b ≡ true → a ≡ b
+pub same-is : (a b : ℤ) → sameNumber a b ≡ true → a ≡ b
 same-is (pos m) (pos n) e = ap pos (eqb-true m n e)
 same-is (pos m) (negsuc n) e = absurd (subst T (sym e) tt)
 same-is (negsuc m) (pos n) e = absurd (subst T (sym e) tt)

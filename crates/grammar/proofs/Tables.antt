@@ -1,15 +1,17 @@
 -- Lists of positions, rings and polygons, one after another: their numbers, lengths, counts, and whether they are closed. Assumes nothing.
-use mathlib.Core.Path.{_≡_, refl, ap, sym, _∙_}
+use mathlib.Core.Path.{_≡_, refl, ap, sym, subst, _∙_}
 use mathlib.Core.Bool.{Bool, true, false, _&&_}
 use mathlib.Core.List.{List, [], _∷_, _++_, append-assoc}
 use Prim.Native.Nat.{ℕ, _+_, _*_}
 use native.Mathlib.Omega.{arith}
+use lib.Dec.{T}
 use lib.ListN.{length, length-append}
 use Rattle.geom.specs.declared.Point.{Point}
 use Rattle.rules.specs.Lists.{total}
 use Rattle.grammar.specs.Grammar.{Ring, Polygon}
-use Rattle.grammar.specs.Texts.{dropLast}
-use Rattle.grammar.specs.Plans.{numbersOf, ringNumbers, coordinates, ringLengths, lengths, counts, isClosed, endsAt, samePoint, allClosed, everyClosed}
+use Rattle.grammar.specs.Texts.{closed, dropLast}
+use Rattle.grammar.specs.Plans.{numbersOf, ringNumbers, coordinates, ringLengths, lengths, counts, isClosed, endsAt, sameNumber, samePoint, allClosed, everyClosed}
+use Rattle.grammar.proofs.Same.{same-is}
 
 -- ---- appending
 
@@ -104,3 +106,27 @@ pub every-append : (a b : List Polygon) → everyClosed (a ++ b) ≡ (everyClose
 unfolding everyClosed
 every-append [] b = refl
 every-append (rings ∷ a) b = ap (λ s. allClosed rings && s) (every-append a b) ∙ and-assoc (allClosed rings) (everyClosed a) (everyClosed b)
+
+-- ---- what was dropped is added again
+
+same-point : (p q : Point) → samePoint p q ≡ true → p ≡ q
+same-point p q e = go (sameNumber (p .x) (q .x)) (sameNumber (p .y) (q .y)) refl refl e
+  where
+    go : (a b : Bool) → sameNumber (p .x) (q .x) ≡ a → sameNumber (p .y) (q .y) ≡ b → (a && b) ≡ true → p ≡ q
+    go true true x y h = let ex = same-is (p .x) (q .x) x in let ey = same-is (p .y) (q .y) y in λ i. record { x = ex i; y = ey i }
+    go true false x y h = absurd (subst T (sym h) tt)
+    go false true x y h = absurd (subst T (sym h) tt)
+    go false false x y h = absurd (subst T (sym h) tt)
+
+ended-by : (p : Point) (ring : Ring) → endsAt p ring ≡ true → dropLast ring ++ (p ∷ []) ≡ ring
+unfolding endsAt dropLast
+ended-by p [] e = absurd (subst T (sym e) tt)
+ended-by p (q ∷ []) e = ap (λ o. o ∷ []) (same-point p q e)
+ended-by p (q ∷ r ∷ ring) e = ap (λ s. q ∷ s) (ended-by p (r ∷ ring) e)
+
+-- a closed ring, read and written, is itself
+pub closed-again : (ring : Ring) → isClosed ring ≡ true → closed (dropLast ring) ≡ ring
+unfolding isClosed endsAt closed dropLast
+closed-again [] e = absurd (subst T (sym e) tt)
+closed-again (p ∷ []) e = absurd (subst T (sym e) tt)
+closed-again (p ∷ q ∷ ring) e = ap (λ s. p ∷ s) (ended-by p (q ∷ ring) e)
