@@ -1,4 +1,4 @@
--- A wktText plan, read again, is the plan it came from: the three lists. `partsOf`, `cornersOf` and `total` as in `rules`. Assumes nothing.
+-- The polygons of a plan, closed and then read, give its three lists again. Assumes nothing.
 use mathlib.Core.Path.{_≡_, refl, ap, ap₂, sym, _∙_}
 use mathlib.Core.List.{List, [], _∷_, _++_, map, append-assoc}
 use Prim.Native.Nat.{ℕ, zero, suc, _+_, _-_}
@@ -9,12 +9,10 @@ use lib.Seq.{length-take-le}
 use Rattle.rules.specs.Lists.{total, partsOf}
 use Rattle.rules.specs.Plans.{cornersOf}
 use Rattle.grammar.specs.Grammar.{Ring, Polygon}
-use Rattle.grammar.specs.Texts.{closed, wktText}
-use Rattle.grammar.specs.Spellings.{Spells}
-use Rattle.grammar.specs.Scans.{spelling}
+use Rattle.grammar.specs.Texts.{closed}
 use Rattle.grammar.specs.Plans.{numbersOf, ringNumbers, coordinates, ringLengths, lengths, counts}
 use Rattle.grammar.proofs.Tables.{numbers-append}
-use Rattle.grammar.proofs.Texts.{Writable, read-again, opened-again}
+use Rattle.grammar.proofs.Texts.{opened-again}
 
 flat : {A : Type 0} → List (List A) → List A
 flat [] = []
@@ -100,10 +98,6 @@ module _ (numbers : List ℤ) (ring-lengths ring-counts : List ℕ) (even : numb
   pub same-counts : counts again ≡ ring-counts
   unfolding polygons again
   same-counts = counts-again polygons ∙ parts-lengths ring-counts (partsOf ring-lengths (cornersOf numbers)) rings-long
-
-  -- what is wktText spells the closed polygons
-  pub spelt-again : Writable again → spelling (wktText again) ≡ Spells again
-  spelt-again w = read-again again w
 
 -- an even list is its corners' numbers
 pub even-numbers : (numbers : List ℤ) (n : ℕ) → length numbers ≡ n + n → numbersOf (cornersOf numbers) ≡ numbers

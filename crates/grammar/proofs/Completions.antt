@@ -1,4 +1,4 @@
--- What is left of a text in each state, and that each state that is not broken leaves something. Assumes nothing.
+-- What completes a text in each mode, and that something does in each mode that is not `Broken`. Assumes nothing.
 use mathlib.Core.Path.{_≡_, refl, ap, sym, subst, _∙_}
 use mathlib.Core.Bool.{Bool, true, false, cond}
 use mathlib.Core.Logic.{_⊎_, inl, inr}
@@ -13,14 +13,8 @@ use Rattle.fields.specs.Decimals.{decimal, fitsWord}
 use Rattle.grammar.specs.Words.{polygon, multipolygon, empty}
 use Rattle.grammar.specs.Grammar.{Ring, Polygon, Spaces, none, more, Mark, round, Pair, pair, Rest, close, next, Bracketed, bracketed, RingText, PolygonText, Member, full, bare, kept, Text, one, one-empty, many, many-empty, Begins}
 use Rattle.geom.specs.declared.Point.{Point}
-use Rattle.grammar.specs.Modes.{Place}
-use Rattle.grammar.specs.Numbers.{Whole}
-use Rattle.grammar.specs.Numbers.{Begun}
-use Rattle.grammar.specs.Numbers.{Minus, Value, Off}
-use Rattle.grammar.specs.Modes.{Mode}
-use Rattle.grammar.specs.Modes.{Start, Word, Spaced, EmptyText, WantMember, EmptyMember, AfterMember, WantRing, WantX, InX, WantY, InY, AfterY, AfterRing, Finished, Broken}
-use Rattle.grammar.specs.Numbers.{isDigit, valueOf, firstByte, nextDigit}
-use Rattle.grammar.specs.Modes.{wordOf, opening, afterWord, afterMember, begunX, begunY, endX, afterPoint, endY, nextMode}
+use Rattle.grammar.specs.Modes.{Place, Mode, Start, Word, Spaced, EmptyText, WantMember, EmptyMember, AfterMember, WantRing, WantX, InX, WantY, InY, AfterY, AfterRing, Finished, Broken, wordOf, opening, afterWord, afterMember, begunX, begunY, endX, afterPoint, endY, nextMode}
+use Rattle.grammar.specs.Numbers.{Whole, Begun, Minus, Value, Off, isDigit, valueOf, firstByte, nextDigit}
 use Rattle.grammar.specs.Scans.{mayEnd, isBroken}
 use Rattle.grammar.proofs.Digits.{textOf, Fine, Allowed, digit-range, next-text, first-text, Completes, completed, next-fine, first-fine, fits-value}
 
@@ -112,10 +106,6 @@ module _ (A : Type 0) (L : A → List ℕ → Type 0) where
 
   after-open : {item : A} {items : List A} {a s t : List ℕ} → Spaces a → L item s → Rest A L items t → Bracketed A L (item ∷ items) (40 ∷ (a ++ (s ++ t)))
   after-open a i r = bracketed (round none a) i r
-
-beyond-space : {multi : Bool} {s : List ℕ} → Beyond multi s → Beyond multi (32 ∷ s)
-beyond-space (at-end h) = at-end (more h)
-beyond-space (members-left h) = members-left (rest-space Polygon Member h)
 
 rings-space : {multi : Bool} {s : List ℕ} → RingsLeft multi s → RingsLeft multi (32 ∷ s)
 rings-space (rings-left v w) = rings-left (rest-space Ring RingText v) w
@@ -229,7 +219,7 @@ next-complete n b d e a c =
     let back : 48 + (b - 48) ≡ b = omega (arith, r .0) in
     record { whole = c .whole; fits = c .fits; text = sym (append-assoc (textOf n) (b ∷ []) d) ∙ ap (λ k. (textOf n ++ (k ∷ [])) ++ d) (sym back) ∙ ap (λ s. s ++ d) (sym (next-text n (b - 48) low a)) ∙ c .text }
 
--- off is broken
+-- what no number begins with is `Broken`
 split-x : (multi : Bool) (n : Begun) (t : List ℕ) (G : Type 0) → (Allowed n → InXLeft multi n t → G) → Left (begunX multi n) t → G
 split-x multi Minus t G g l = g tt l
 split-x multi (Value z) t G g l = g tt l
@@ -327,7 +317,7 @@ start-many (due-left w) = many-text w
 -- ---- words by their bytes
 
 -- no byte of a word is 0
-abbrev NoZero : List ℕ → Type 0
+abbrev pub NoZero : List ℕ → Type 0
 NoZero [] = Unit {0}
 NoZero (x ∷ w) = (x ≡ 0 → ⊥) × NoZero w
 
@@ -343,11 +333,11 @@ word-due [] (suc k) z = absurd (z refl)
 word-due (x ∷ w) zero z = refl
 word-due (x ∷ w) (suc k) z = word-due w k z ∙ ap (λ n. getD w k 0 ∷ drop n (x ∷ w)) (let e : suc (k + 1) ≡ suc k + 1 = omega arith in e)
 
-word-fine : (multi : Bool) → NoZero (wordOf multi)
+pub word-fine : (multi : Bool) → NoZero (wordOf multi)
 word-fine true = ((λ e. omega arith), ((λ e. omega arith), ((λ e. omega arith), ((λ e. omega arith), ((λ e. omega arith), ((λ e. omega arith), ((λ e. omega arith), ((λ e. omega arith), ((λ e. omega arith), ((λ e. omega arith), ((λ e. omega arith), ((λ e. omega arith), tt))))))))))))
 word-fine false = ((λ e. omega arith), ((λ e. omega arith), ((λ e. omega arith), ((λ e. omega arith), ((λ e. omega arith), ((λ e. omega arith), ((λ e. omega arith), tt)))))))
 
-empty-fine : NoZero empty
+pub empty-fine : NoZero empty
 empty-fine = ((λ e. omega arith), ((λ e. omega arith), ((λ e. omega arith), ((λ e. omega arith), ((λ e. omega arith), tt)))))
 
 due-over : (multi : Bool) (k : ℕ) (s : List ℕ) → getD (wordOf multi) k 0 ≡ 0 → WordLeft multi s → DueLeft multi k s
@@ -520,7 +510,7 @@ unfolding modeAfter
 run-sound mode [] h = h
 run-sound mode (b ∷ t) h = run-sound (nextMode mode b) t (next-sound mode b h)
 
--- ---- a live mode leaves something
+-- ---- a mode that is not `Broken` has a completion
 
 some-beyond : (multi : Bool) → (s : List ℕ) × Beyond multi s
 some-beyond false = ([], at-end none)
@@ -566,7 +556,7 @@ unfolding modeAfter
 reach mode [] s h l = l
 reach mode (b ∷ t) s h l = back mode b (t ++ s) h (reach (nextMode mode b) t s (next-sound mode b h) l)
 
--- what leaves the machine alive begins a text of the grammar
+-- bytes that do not lead to `Broken` begin a text of the grammar
 pub unbroken-begins : (t : List ℕ) → isBroken (modeAfter Start t) ≡ false → Begins t
 unbroken-begins t a = let l = some-left (modeAfter Start t) (run-sound Start t tt) a in let g = reach Start t (l .0) tt (l .1) in (l .0, g .0, g .1)
 
@@ -588,6 +578,6 @@ nothing-left (AfterRing multi) a = falsehood (sym a)
 nothing-left Finished a = none
 nothing-left Broken a = falsehood (sym a)
 
--- what the machine accepts is a text of the grammar
+-- bytes behind which a text may end are a text of the grammar
 pub accepted-text : (t : List ℕ) → mayEnd (modeAfter Start t) ≡ true → (polygons : List Polygon) × Text polygons t
 accepted-text t a = subst (λ s. (polygons : List Polygon) × Text polygons s) (append-nil t) (reach Start t [] tt (nothing-left (modeAfter Start t) a))

@@ -9,10 +9,7 @@ use lib.IntN.{ℤ, pos, negsuc}
 use borrow.Author.Tests.{leb-true, eqb-true, lt-ltb}
 use Rattle.fields.specs.Decimals.{digits, decimal, fitsWord}
 use Rattle.fields.proofs.Decimals.{digits-one, digits-next}
-use Rattle.grammar.specs.Numbers.{Whole}
-use Rattle.grammar.specs.Numbers.{Begun}
-use Rattle.grammar.specs.Numbers.{Minus, Value, Off}
-use Rattle.grammar.specs.Numbers.{isDigit, valueOf, plain, under, fitting, firstByte, negative, afterPlain, afterValue, nextDigit}
+use Rattle.grammar.specs.Numbers.{Whole, Begun, Minus, Value, Off, isDigit, valueOf, plain, under, fitting, firstByte, negative, afterPlain, afterValue, nextDigit}
 
 abbrev pub textOf : Begun → List ℕ
 textOf Minus = 45 ∷ []

@@ -1,4 +1,4 @@
--- The spelling of a text, read a byte at a time, is the grammar's, and there is one. Assumes nothing.
+-- What a text spells, found a byte at a time, is what the grammar says, and the grammar says one thing. Assumes nothing.
 use mathlib.Core.Path.{_≡_, refl, ap, sym, subst, _∙_}
 use mathlib.Core.Bool.{Bool, true, false, cond}
 use mathlib.Core.List.{List, [], _∷_, _++_, append-assoc, append-nil}
@@ -8,9 +8,8 @@ use lib.Dec.{ltb}
 use lib.ListN.{length, take, drop, length-append, take-append-drop}
 use lib.Seq.{take-append-le, take-append-add}
 use borrow.Author.Tests.{ltb-true, ltb-false}
-use Rattle.grammar.specs.Modes.{Start}
+use Rattle.grammar.specs.Modes.{Start, nextMode, eventOf}
 use Rattle.grammar.specs.Grammar.{Polygon, Text, Begins}
-use Rattle.grammar.specs.Modes.{nextMode, eventOf}
 use Rattle.grammar.specs.Spellings.{Spelling, Spells, Breaks, BreaksAt, Means}
 use Rattle.grammar.specs.Scans.{nothing, built, mayEnd, isBroken, read, spelling}
 use Rattle.grammar.proofs.Completions.{modeAfter, unbroken-begins, accepted-text}
@@ -27,7 +26,7 @@ begins-take j s h = begins-front (take j s) (drop j s) (subst Begins (sym (take-
 text-begins : (polygons : List Polygon) (s : List ℕ) → Text polygons s → Begins s
 text-begins polygons s h = ([], polygons, subst (λ t. Text polygons t) (sym (append-nil s)) h)
 
--- ---- where the machine stands
+-- ---- the mode behind some bytes
 
 abbrev reached : List ℕ → State
 reached pre = run (at Start nothing) pre
@@ -39,11 +38,11 @@ one-step : (pre : List ℕ) (b : ℕ) → reached (pre ++ (b ∷ [])) ≡ step (
 unfolding run
 one-step pre b = run-append (at Start nothing) pre (b ∷ [])
 
-begun-alive : (pre : List ℕ) → Begins pre → isBroken (reached pre .mode) ≡ false
-begun-alive pre h = ap isBroken (mode-is pre) ∙ begins-unbroken pre h
+begun-unbroken : (pre : List ℕ) → Begins pre → isBroken (reached pre .mode) ≡ false
+begun-unbroken pre h = ap isBroken (mode-is pre) ∙ begins-unbroken pre h
 
-alive-begun : (pre : List ℕ) → isBroken (reached pre .mode) ≡ false → Begins pre
-alive-begun pre h = unbroken-begins pre (sym (ap isBroken (mode-is pre)) ∙ h)
+unbroken-begun : (pre : List ℕ) → isBroken (reached pre .mode) ≡ false → Begins pre
+unbroken-begun pre h = unbroken-begins pre (sym (ap isBroken (mode-is pre)) ∙ h)
 
 given-one : (st : State) (o p : List Polygon) → Gives st o → Gives st p → o ≡ p
 given-one st o p g h = sym (g .given) ∙ h .given
@@ -60,7 +59,7 @@ end-means pre a = go (mayEnd (reached pre .mode)) refl
     go true e =
         let t = accepted-text pre (sym (ap mayEnd (mode-is pre)) ∙ e) in
         subst (λ o. Text o pre) (sym (text-given (t .0) pre (t .1) .given)) (t .1)
-    go false e = record { off = λ o t. no (sym (text-given o pre t .accepts) ∙ e); inside = omega arith; so-far = λ j l. begins-take j pre (alive-begun pre a); no-farther = λ l b. omega arith }
+    go false e = record { off = λ o t. no (sym (text-given o pre t .accepts) ∙ e); inside = omega arith; so-far = λ j l. begins-take j pre (unbroken-begun pre a); no-farther = λ l b. omega arith }
 
 -- ---- byte by byte
 
@@ -70,11 +69,11 @@ take-next pre b s = let e : suc (length pre) ≡ length pre + 1 = omega arith in
 broken-means : (pre : List ℕ) (b : ℕ) (s : List ℕ) → isBroken (reached pre .mode) ≡ false → isBroken (nextMode (reached pre .mode) b) ≡ true → BreaksAt (pre ++ (b ∷ s)) (length pre)
 unfolding step
 broken-means pre b s a e =
-    let stuck : Begins (pre ++ (b ∷ [])) → ⊥ = λ h. no (sym e ∙ sym (ap (λ st. isBroken (st .mode)) (one-step pre b)) ∙ begun-alive (pre ++ (b ∷ [])) h) in
+    let stuck : Begins (pre ++ (b ∷ [])) → ⊥ = λ h. no (sym e ∙ sym (ap (λ st. isBroken (st .mode)) (one-step pre b)) ∙ begun-unbroken (pre ++ (b ∷ [])) h) in
     record {
       off = λ o t. stuck (begins-front (pre ++ (b ∷ [])) s (subst Begins (sym (append-assoc pre (b ∷ []) s)) (text-begins o (pre ++ (b ∷ s)) t)));
       inside = omega (arith, length-append pre (b ∷ s));
-      so-far = λ j l. subst Begins (sym (take-append-le j pre (b ∷ s) l)) (begins-take j pre (alive-begun pre a));
+      so-far = λ j l. subst Begins (sym (take-append-le j pre (b ∷ s) l)) (begins-take j pre (unbroken-begun pre a));
       no-farther = λ l h. stuck (subst Begins (take-next pre b s) h);
     }
 
@@ -93,12 +92,12 @@ reads pre (b ∷ s) a = go (isBroken (nextMode (reached pre .mode) b)) refl (λ 
         subst (Means (pre ++ (b ∷ s))) (ap (λ k. read k (reached (pre ++ (b ∷ [])) .mode) (reached (pre ++ (b ∷ [])) .built-so-far) s) longer ∙ ap (λ st. read (suc (length pre)) (st .mode) (st .built-so-far) s) (one-step pre b))
         (subst (λ t. Means t (read (length (pre ++ (b ∷ []))) (reached (pre ++ (b ∷ [])) .mode) (reached (pre ++ (b ∷ [])) .built-so-far) s)) (append-assoc pre (b ∷ []) s) m)
 
--- the spelling is the grammar's
+-- what is found is what the grammar says
 pub means : (text : List ℕ) → Means text (spelling text)
 unfolding spelling run
 means text = reads [] text refl
 
--- and a text has one spelling
+-- which is one thing
 less-broken : (text : List ℕ) (j k : ℕ) → BreaksAt text j → BreaksAt text k → j < k → ⊥
 less-broken text j k g h l = g .no-farther (omega (arith, h .inside)) (h .so-far (suc j) l)
 

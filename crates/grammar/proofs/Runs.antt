@@ -1,4 +1,4 @@
--- Every text of the grammar is accepted, with its polygons. Assumes nothing.
+-- Every text of the grammar leads to a mode in which it may end, with its polygons built. Assumes nothing.
 use mathlib.Core.Path.{_≡_, refl, ap, ap₂, sym, _∙_}
 use mathlib.Core.Bool.{Bool, true, false, cond}
 use mathlib.Core.List.{List, [], _∷_, _++_, append-assoc, append-nil}
@@ -12,14 +12,8 @@ use Rattle.fields.proofs.Decimals.{digits-one, digits-more}
 use Rattle.grammar.specs.Words.{polygon, multipolygon, empty}
 use Rattle.grammar.specs.Grammar.{Ring, Polygon, Spaces, none, more, Mark, round, Pair, pair, Rest, close, next, Bracketed, bracketed, RingText, PolygonText, Member, full, bare, kept, Text, one, one-empty, many, many-empty, Begins}
 use Rattle.geom.specs.declared.Point.{Point}
-use Rattle.grammar.specs.Numbers.{Whole}
-use Rattle.grammar.specs.Numbers.{Begun}
-use Rattle.grammar.specs.Numbers.{Minus, Value, Off}
-use Rattle.grammar.specs.Modes.{Mode}
-use Rattle.grammar.specs.Modes.{Start, Word, Spaced, EmptyText, WantMember, EmptyMember, AfterMember, WantRing, WantX, InX, WantY, InY, AfterY, AfterRing, Finished, Broken}
-use Rattle.grammar.specs.Modes.{Nothing, Corner, RingEnds}
-use Rattle.grammar.specs.Numbers.{isDigit, valueOf, wholeOf, plain, under, fitting, firstByte, nextDigit}
-use Rattle.grammar.specs.Modes.{begunX, begunY, endX, endY, yEvent, nextMode, eventOf}
+use Rattle.grammar.specs.Numbers.{Whole, Begun, Minus, Value, Off, isDigit, valueOf, wholeOf, plain, under, fitting, firstByte, nextDigit}
+use Rattle.grammar.specs.Modes.{Mode, Start, Word, Spaced, EmptyText, WantMember, EmptyMember, AfterMember, WantRing, WantX, InX, WantY, InY, AfterY, AfterRing, Finished, Broken, Nothing, Corner, RingEnds, begunX, begunY, endX, endY, yEvent, nextMode, eventOf}
 use Rattle.grammar.specs.Scans.{So-far, nothing, pointOf, built, mayEnd, isBroken, placeOf}
 use Rattle.grammar.proofs.Digits.{digit-range}
 use Rattle.grammar.proofs.Completions.{modeAfter}
@@ -242,7 +236,7 @@ polygon-run st multi done rings opens u (bracketed {item} {items} {m} {s} {t} mk
 
 -- ---- members
 
-abbrev pub built-of : List Polygon → So-far
+abbrev built-of : List Polygon → So-far
 built-of done = inside done []
 
 member-opens : (done : List Polygon) (m : List ℕ) → Mark 40 m → run (at WantMember (built-of done)) m ≡ at (WantRing true) (inside done [])
@@ -323,30 +317,29 @@ many-word : (s : List ℕ) → run (at Start nothing) (multipolygon ++ s) ≡ ru
 unfolding run step nextMode eventOf
 many-word s = refl
 
--- an mayEnd state with these polygons
+-- the text may end there, and these polygons are built
 pub record Gives (st : State) (polygons : List Polygon) : Type 0 where
   pub accepts : mayEnd (st .mode) ≡ true
   pub given : st .built-so-far .done ≡ polygons
-  pub whole : st .built-so-far ≡ built-of polygons
 
 gives-at : (st : State) (mode : Mode) (polygons : List Polygon) → mayEnd mode ≡ true → st ≡ at mode (built-of polygons) → Gives st polygons
-gives-at st mode polygons a e = record { accepts = ap (λ s. mayEnd (s .mode)) e ∙ a; given = ap (λ s. s .built-so-far .done) e; whole = ap (λ s. s .built-so-far) e }
+gives-at st mode polygons a e = record { accepts = ap (λ s. mayEnd (s .mode)) e ∙ a; given = ap (λ s. s .built-so-far .done) e }
 
--- every text of the grammar is accepted, with its polygons
+-- every text of the grammar
 pub text-given : (polygons : List Polygon) (t : List ℕ) → Text polygons t → Gives (run (at Start nothing) t) polygons
 text-given polygons t (one {rings} {s} p) = gives-at (run (at Start nothing) (polygon ++ s)) Finished (rings ∷ []) refl (one-word s ∙ polygon-run (at (wordEnd false) nothing) false [] rings one-opens s p)
 text-given polygons t (one-empty {a} sp) = gives-at (run (at Start nothing) (polygon ++ (32 ∷ (a ++ empty)))) (EmptyText 5) [] refl (one-word (32 ∷ (a ++ empty)) ∙ empty-run false a sp)
 text-given polygons t (many {members} {s} p) = gives-at (run (at Start nothing) (multipolygon ++ s)) Finished (kept members) refl (many-word s ∙ many-run members s p)
 text-given polygons t (many-empty {a} sp) = gives-at (run (at Start nothing) (multipolygon ++ (32 ∷ (a ++ empty)))) (EmptyText 5) [] refl (many-word (32 ∷ (a ++ empty)) ∙ empty-run true a sp)
 
--- ---- what begins a text leaves the machine alive
+-- ---- what begins a text does not lead to `Broken`
 
 pub run-mode : (st : State) (t : List ℕ) → run st t .mode ≡ modeAfter (st .mode) t
 unfolding run step modeAfter
 run-mode st [] = refl
 run-mode st (b ∷ t) = run-mode (step st b) t
 
-pub mode-append : (mode : Mode) (a b : List ℕ) → modeAfter mode (a ++ b) ≡ modeAfter (modeAfter mode a) b
+mode-append : (mode : Mode) (a b : List ℕ) → modeAfter mode (a ++ b) ≡ modeAfter (modeAfter mode a) b
 unfolding modeAfter
 mode-append mode [] b = refl
 mode-append mode (x ∷ a) b = mode-append (nextMode mode x) a b

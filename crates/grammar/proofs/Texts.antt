@@ -1,4 +1,4 @@
--- What is wktText is a text of the grammar that spells the polygons. Assumes nothing.
+-- What is written is a text of the grammar that spells the polygons. Assumes nothing.
 use mathlib.Core.Path.{_≡_, refl, ap, subst}
 use mathlib.Core.Bool.{true}
 use mathlib.Core.List.{List, [], _∷_, _++_}
@@ -60,7 +60,7 @@ all-kept [] h = refl
 all-kept ([] ∷ polygons) h = absurd (h .0)
 all-kept ((ring ∷ rings) ∷ polygons) h = ap (λ ps. (ring ∷ rings) ∷ ps) (all-kept polygons (h .1))
 
-pub written-text : (polygons : List Polygon) → Writable polygons → Text polygons (wktText polygons)
+written-text : (polygons : List Polygon) → Writable polygons → Text polygons (wktText polygons)
 unfolding wktText
 written-text [] h = many-empty none
 written-text (rings ∷ polygons) h = subst (λ ps. Text ps (multipolygon ++ (32 ∷ inBrackets polygonText (rings ∷ polygons)))) (all-kept (rings ∷ polygons) h) (many (spaced-is Polygon Member (Some (Some Fits)) polygonText polygon-is (rings ∷ polygons) h))

@@ -43,7 +43,7 @@ skipped text at place g s = record { on = g .on; inside = g .inside; spaces = g 
 
 -- ---- numbers and pairs
 
-pub whole-back : (w : Whole) → wholeOf (valueOf w) ≡ w
+whole-back : (w : Whole) → wholeOf (valueOf w) ≡ w
 whole-back w = go (w .below) (w .size)
   where
     go : (b : Bool) (n : ℕ) → wholeOf (valueOf (record { below = b; size = n })) ≡ record { below = b; size = n }
@@ -110,7 +110,7 @@ wanting-early : (w : Wanted) → mayEnd (wanting w) ≡ false
 wanting-early (X multi) = refl
 wanting-early (Y multi x) = refl
 
-pub wanting-rests : (w : Wanted) → Resting (wanting w)
+wanting-rests : (w : Wanted) → Resting (wanting w)
 unfolding nextMode eventOf
 wanting-rests (X multi) = record { stays = refl; silent = refl; whole = refl }
 wanting-rests (Y multi x) = record { stays = refl; silent = refl; whole = refl }

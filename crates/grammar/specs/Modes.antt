@@ -1,4 +1,4 @@
--- A text read a byte at a time.
+-- Where in the grammar the bytes of a text lead, one after another (document 02, R-1).
 use mathlib.Core.Bool.{Bool, true, false, cond}
 use mathlib.Core.List.{List}
 use Prim.Native.Nat.{ℕ, _+_, _-_}
@@ -58,7 +58,7 @@ opening multi b = cond (eqb b 40) (cond multi WantMember (WantRing false)) Broke
 abbrev pub afterWord : Bool → ℕ → Mode
 afterWord multi b = cond (eqb b 32) (Spaced multi) (opening multi b)
 
--- no byte of a word is 0
+-- a byte of a word, or 0 behind its last; no byte of a word is 0
 abbrev pub inWord : Bool → ℕ → ℕ → Mode
 inWord multi k b = cond (eqb (getD (wordOf multi) k 0) 0) (afterWord multi b) (cond (eqb b (getD (wordOf multi) k 0)) (Word multi (k + 1)) Broken)
 

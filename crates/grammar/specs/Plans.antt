@@ -65,6 +65,6 @@ unfoldable pub counts : List Polygon → List ℕ
 counts [] = []
 counts (rings ∷ polygons) = length rings ∷ counts polygons
 
--- the plan that they are: a list
+-- the plan that they make: a list
 abbrev pub planSpelt : List Polygon → Plan
 planSpelt polygons = record { kind = Polygons; coordinates = coordinates polygons; lengths = lengths polygons; counts = counts polygons }

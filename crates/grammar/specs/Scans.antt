@@ -6,13 +6,8 @@ use lib.ListN.{drop}
 use Prim.Native.Nat.{ℕ, suc, _+_}
 use Rattle.grammar.specs.Grammar.{Ring, Polygon}
 use Rattle.geom.specs.declared.Point.{Point}
-use Rattle.grammar.specs.Modes.{Place}
-use Rattle.grammar.specs.Modes.{Mode}
-use Rattle.grammar.specs.Modes.{Start, Word, Spaced, EmptyText, WantMember, EmptyMember, AfterMember, WantRing, WantX, InX, WantY, InY, AfterY, AfterRing, Finished, Broken}
-use Rattle.grammar.specs.Modes.{Event}
-use Rattle.grammar.specs.Modes.{Nothing, Corner, RingEnds, PolygonEnds}
+use Rattle.grammar.specs.Modes.{Place, Mode, Start, Word, Spaced, EmptyText, WantMember, EmptyMember, AfterMember, WantRing, WantX, InX, WantY, InY, AfterY, AfterRing, Finished, Broken, Event, Nothing, Corner, RingEnds, PolygonEnds, nextMode, eventOf}
 use Rattle.grammar.specs.Numbers.{valueOf, wholeOf}
-use Rattle.grammar.specs.Modes.{nextMode, eventOf}
 use Rattle.grammar.specs.Spellings.{Spelling, Spells, Breaks}
 
 -- the polygons done, the rings of the present one and the positions of the present ring
@@ -73,7 +68,7 @@ isBroken (AfterRing multi) = false
 isBroken Finished = false
 isBroken Broken = true
 
--- from place k on
+-- the bytes from place k on, in this mode with so much built
 unfoldable pub read : ℕ → Mode → So-far → List ℕ → Spelling
 read k mode f [] = cond (mayEnd mode) (Spells (f .done)) (Breaks k)
 read k mode f (b ∷ text) = cond (isBroken (nextMode mode b)) (Breaks k) (read (suc k) (nextMode mode b) (built f (eventOf mode b)) text)
@@ -81,6 +76,6 @@ read k mode f (b ∷ text) = cond (isBroken (nextMode mode b)) (Breaks k) (read 
 unfoldable pub spelling : List ℕ → Spelling
 spelling text = read 0 Start nothing text
 
--- the same from a place of the text on
+-- the same of a text, from a place on
 abbrev pub readFrom : List ℕ → ℕ → Mode → So-far → Spelling
 readFrom text at mode f = read at mode f (drop at text)

@@ -15,7 +15,7 @@ pub record BreaksAt (text : List ℕ) (k : ℕ) : Type 0 where
   pub so-far : (j : ℕ) → j ≤ k → Begins (take j text)
   pub no-farther : k < length text → Begins (take (suc k) text) → ⊥
 
--- by the grammar alone
+-- what a text spells, by the grammar alone
 abbrev pub Means : List ℕ → Spelling → Type 0
 Means text (Spells polygons) = Text polygons text
 Means text (Breaks k) = BreaksAt text k

@@ -54,7 +54,7 @@ with-both e a b =
     λ i. record { corners = c i; rings = r i; polygons = p i; closed = k i }
 
 -- one after another
-pub adds-both : (e e′ e″ : Extent) (c c′ c″ : List ℤ) (l l′ l″ n n′ n″ : List ℕ) (a b : List Polygon) → Adds e c c′ l l′ n n′ e′ a → Adds e′ c′ c″ l′ l″ n′ n″ e″ b → Adds e c c″ l l″ n n″ e″ (a ++ b)
+adds-both : (e e′ e″ : Extent) (c c′ c″ : List ℤ) (l l′ l″ n n′ n″ : List ℕ) (a b : List Polygon) → Adds e c c′ l l′ n n′ e′ a → Adds e′ c′ c″ l′ l″ n′ n″ e″ b → Adds e c c″ l l″ n n″ e″ (a ++ b)
 adds-both e e′ e″ c c′ c″ l l′ l″ n n′ n″ a b f g =
     let x = ap (λ z. z .corners) (f .counted) in
     let y = ap (λ z. z .rings) (f .counted) in
@@ -69,7 +69,7 @@ adds-both e e′ e″ c c′ c″ l l′ l″ n n′ n″ a b f g =
     }
 
 -- tables keep their lengths
-pub adds-lengths : (e e′ : Extent) (c c′ : List ℤ) (l l′ n n′ : List ℕ) (a : List Polygon) → Adds e c c′ l l′ n n′ e′ a → (length c′ ≡ length c) × (length l′ ≡ length l) × (length n′ ≡ length n)
+adds-lengths : (e e′ : Extent) (c c′ : List ℤ) (l l′ n n′ : List ℕ) (a : List Polygon) → Adds e c c′ l l′ n n′ e′ a → (length c′ ≡ length c) × (length l′ ≡ length l) × (length n′ ≡ length n)
 adds-lengths e e′ c c′ l l′ n n′ a g = (ap length (g .corners-put) ∙ put-length (2 * e .corners) (coordinates a) c, ap length (g .lengths-put) ∙ put-length (e .rings) (Plans.lengths a) l, ap length (g .counts-put) ∙ put-length (e .polygons) (Plans.counts a) n)
 
 -- ---- a member

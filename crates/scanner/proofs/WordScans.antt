@@ -8,13 +8,12 @@ use native.Mathlib.Numerals.{add-one}
 use native.Mathlib.Omega.{arith}
 use lib.Dec.{eqb}
 use lib.ListN.{length, getD, List·getD-eq-default}
-use borrow.Author.Tests.{eq-eqb, ne-eqb, eqb-false}
-use Rattle.integers.proofs.Tests.{or-false}
-use Rattle.rules.specs.Lists.{anyOf}
+use borrow.Author.Tests.{eq-eqb, ne-eqb}
 use Rattle.grammar.specs.Words.{polygon, multipolygon, empty}
 use Rattle.grammar.specs.Modes.{Mode, Broken, Word, EmptyText, EmptyMember, AfterMember, Nothing, wordOf, nextMode, eventOf}
 use Rattle.grammar.specs.Spellings.{Breaks}
 use Rattle.grammar.specs.Scans.{So-far, isBroken, mayEnd, readFrom}
+use Rattle.grammar.proofs.Completions.{NoZero, word-fine, empty-fine}
 use Rattle.grammar.proofs.Steps.{leads, leaves, stops-early, alike}
 use Rattle.scanner.specs.Scanned.{Matched}
 
@@ -70,11 +69,10 @@ module _ (text : List ℕ) (at : ℕ) (mode : ℕ → Mode) (word : List ℕ) (s
 
 -- ---- the words
 
-no-zero : (word : List ℕ) → anyOf (λ b. eqb b 0) word ≡ false → (j : ℕ) → j < length word → getD word j 0 ≡ 0 → ⊥
-unfolding anyOf
+no-zero : (word : List ℕ) → NoZero word → (j : ℕ) → j < length word → getD word j 0 ≡ 0 → ⊥
 no-zero [] z j h e = absurd (omega arith)
-no-zero (b ∷ word) z zero h e = eqb-false b 0 (or-false (eqb b 0) _ z .0) e
-no-zero (b ∷ word) z (suc j) h e = no-zero word (or-false (eqb b 0) _ z .1) j (omega arith) e
+no-zero (b ∷ word) z zero h e = z .0 e
+no-zero (b ∷ word) z (suc j) h e = no-zero word (z .1) j (omega arith) e
 
 abbrev tail : List ℕ → List ℕ
 tail [] = []
@@ -105,47 +103,43 @@ unfolding eventOf
 member-silent k b = refl
 
 pub polygon-spelt : Spelt (λ j. Word false (suc j)) (tail polygon)
-unfolding anyOf
 polygon-spelt =
     record {
-      next = λ j b h. word-next false (suc j) b (no-zero (tail polygon) refl j h) ∙ ap (λ k. cond (eqb b (getD (tail polygon) j 0)) (Word false k) Broken) (add-one (suc j));
+      next = λ j b h. word-next false (suc j) b (no-zero (tail polygon) (word-fine false .1) j h) ∙ ap (λ k. cond (eqb b (getD (tail polygon) j 0)) (Word false k) Broken) (add-one (suc j));
       silent = λ j b. word-silent false (suc j) b;
       whole = λ j. refl;
       early = λ j h. refl;
-      some = no-zero (tail polygon) refl;
+      some = no-zero (tail polygon) (word-fine false .1);
     }
 
 pub multipolygon-spelt : Spelt (λ j. Word true (suc j)) (tail multipolygon)
-unfolding anyOf
 multipolygon-spelt =
     record {
-      next = λ j b h. word-next true (suc j) b (no-zero (tail multipolygon) refl j h) ∙ ap (λ k. cond (eqb b (getD (tail multipolygon) j 0)) (Word true k) Broken) (add-one (suc j));
+      next = λ j b h. word-next true (suc j) b (no-zero (tail multipolygon) (word-fine true .1) j h) ∙ ap (λ k. cond (eqb b (getD (tail multipolygon) j 0)) (Word true k) Broken) (add-one (suc j));
       silent = λ j b. word-silent true (suc j) b;
       whole = λ j. refl;
       early = λ j h. refl;
-      some = no-zero (tail multipolygon) refl;
+      some = no-zero (tail multipolygon) (word-fine true .1);
     }
 
 pub text-spelt : Spelt (λ j. EmptyText (suc j)) (tail empty)
-unfolding anyOf
 text-spelt =
     record {
-      next = λ j b h. text-next (suc j) b (no-zero (tail empty) refl j h) ∙ ap (λ k. cond (eqb b (getD (tail empty) j 0)) (EmptyText k) Broken) (add-one (suc j));
+      next = λ j b h. text-next (suc j) b (no-zero (tail empty) (empty-fine .1) j h) ∙ ap (λ k. cond (eqb b (getD (tail empty) j 0)) (EmptyText k) Broken) (add-one (suc j));
       silent = λ j b. text-silent (suc j) b;
       whole = λ j. refl;
       early = λ j h. ne-eqb (suc j) 5 (λ e. omega arith);
-      some = no-zero (tail empty) refl;
+      some = no-zero (tail empty) (empty-fine .1);
     }
 
 pub member-spelt : Spelt (λ j. EmptyMember (suc j)) (tail empty)
-unfolding anyOf
 member-spelt =
     record {
-      next = λ j b h. member-next (suc j) b (no-zero (tail empty) refl j h) ∙ ap (λ k. cond (eqb b (getD (tail empty) j 0)) (EmptyMember k) Broken) (add-one (suc j));
+      next = λ j b h. member-next (suc j) b (no-zero (tail empty) (empty-fine .1) j h) ∙ ap (λ k. cond (eqb b (getD (tail empty) j 0)) (EmptyMember k) Broken) (add-one (suc j));
       silent = λ j b. member-silent (suc j) b;
       whole = λ j. refl;
       early = λ j h. refl;
-      some = no-zero (tail empty) refl;
+      some = no-zero (tail empty) (empty-fine .1);
     }
 
 -- ---- behind EMPTY

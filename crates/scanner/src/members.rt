@@ -1,42 +1,15 @@
 // The members of a MULTIPOLYGON: polygons, or EMPTY, which adds none.
-ghost use mathlib.Core.Path.{_≡_};
 ghost use Prim.Native.Nat.{_≤_};
 ghost use lib.ListN.{length};
 ghost use Rattle.grammar.specs.Modes.{WantMember};
-ghost use Rattle.scanner.specs.Extents.{noExtent, Counted};
-ghost use Rattle.scanner.specs.Scanned.{Matched, MemberScanned, AllScanned};
+ghost use Rattle.scanner.specs.Extents.{Counted};
+ghost use Rattle.scanner.specs.Scanned.{MemberScanned, AllScanned};
 use crate::Extent;
 use crate::Scan;
+use crate::no_extent;
 use crate::polygons::polygon;
-use grammar::byte_at;
+use crate::words::matched;
 use grammar::next_mark;
-
-/// How many bytes of a word, from its start on, stand at a place of a text.
-pub(crate) fn matched(text: &[u8], at: usize, word: &[u8]) -> usize
-    requires { ⌜ (at ≤ 65536) × (length (now word) ≤ 12) ⌝ }
-    ensures { λ r. ⌜ Matched (now (text .entry)) at (now (word .entry)) r ⌝ }
-{
-    let mut n = 0;
-    while n < word.len() {
-        if byte_at(text, at + n) != word[n] {
-            return n;
-        }
-        n += 1;
-    }
-    n
-}
-
-/// The plan of no polygons.
-pub(crate) fn no_extent() -> Extent
-    ensures { λ r. ⌜ r ≡ noExtent ⌝ }
-{
-    Extent {
-        corners: 0,
-        rings: 0,
-        polygons: 0,
-        closed: true,
-    }
-}
 
 // The member that is wanted at a place of a text.
 fn member(

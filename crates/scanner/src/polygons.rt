@@ -7,7 +7,7 @@ ghost use Rattle.scanner.specs.Scanned.{PolygonScanned};
 use crate::Extent;
 use crate::Scan;
 use crate::rings::ring_at;
-use crate::rings::store;
+use crate::tables::store;
 use grammar::next_mark;
 
 // The plan with a polygon more.

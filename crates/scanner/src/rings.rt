@@ -1,46 +1,19 @@
 // A ring: positions in brackets, parted by commas. Its last position closes it and is not stored.
 ghost use mathlib.Core.Path.{_≡_};
-ghost use mathlib.Core.List.{[], _∷_};
-ghost use Prim.Native.Nat.{_+_, _*_, _≤_};
-ghost use lib.ListN.{length, set};
+ghost use Prim.Native.Nat.{_+_, _≤_};
+ghost use lib.ListN.{length};
 ghost use Rattle.grammar.specs.Modes.{WantRing, WantX};
 ghost use Rattle.grammar.specs.Plans.{samePoint};
-ghost use Rattle.scanner.specs.Puts.{put};
 ghost use Rattle.scanner.specs.Extents.{firstOf, closes, withRing, Counted};
 ghost use Rattle.scanner.specs.Scanned.{RingScanned};
 use crate::Extent;
 use crate::Scan;
 use crate::positions::Position;
 use crate::positions::read_position;
+use crate::tables::store;
+use crate::tables::store_corner;
 use geom::Point;
 use grammar::next_mark;
-
-/// A number at place k of a table, if it has one.
-pub(crate) fn store(table: &mut [usize], k: usize, value: usize)
-    ensures { λ _. ⌜ now (table .exit) ≡ set (now (table .entry)) k value ⌝ }
-{
-    if k < table.len() {
-        table[k] = value;
-    }
-}
-
-// A coordinate at place k of a table, if it has one.
-fn store_number(table: &mut [i64], k: usize, value: i64)
-    ensures { λ _. ⌜ now (table .exit) ≡ set (now (table .entry)) k value ⌝ }
-{
-    if k < table.len() {
-        table[k] = value;
-    }
-}
-
-// Corner n of a coordinate table, as far as it reaches.
-fn store_corner(table: &mut [i64], n: usize, p: Point)
-    requires { ⌜ n ≤ 65536 ⌝ }
-    ensures { λ _. ⌜ now (table .exit) ≡ put (2 * n) (p .x ∷ p .y ∷ []) (now (table .entry)) ⌝ }
-{
-    store_number(table, 2 * n, p.x);
-    store_number(table, 2 * n + 1, p.y);
-}
 
 // Whether two positions are the same.
 fn same_point(p: Point, q: Point) -> bool

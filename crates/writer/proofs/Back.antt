@@ -118,7 +118,7 @@ module _ (coordinates : List ℤ) (lengths counts : List ℕ) (d : Drawn coordin
   as-fit : All (Some (Some Fits)) (partsOf counts (partsOf lengths (cornersOf coordinates)))
   as-fit = all-parts (Some Fits) counts (partsOf lengths (cornersOf coordinates)) (counts-full coordinates lengths counts d) rings-long (all-parts Fits lengths (cornersOf coordinates) (d .full) (corners-sum coordinates lengths counts d) (corners-fit coordinates fit))
 
-  pub writable : Writable (closedPolygons coordinates lengths counts)
+  writable : Writable (closedPolygons coordinates lengths counts)
   unfolding polygonsOf ringsOf
   writable = all-map (Some (Some Fits)) (Some (Some Fits)) (map closed) (some-map (Some Fits) (Some Fits) closed closed-fit) (partsOf counts (partsOf lengths (cornersOf coordinates))) as-fit
 

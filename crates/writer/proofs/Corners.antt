@@ -1,5 +1,5 @@
 -- The corners of a ring, and the ring closed. Assumes nothing.
-use mathlib.Core.Path.{_≡_, refl, ap, _∙_}
+use mathlib.Core.Path.{_≡_, ap, _∙_}
 use mathlib.Core.List.{List, [], _∷_, _++_}
 use Prim.Native.Nat.{ℕ, suc, _+_, _/_, _≤_, _<_}
 use native.Mathlib.Numerals.{add-one}
@@ -18,10 +18,6 @@ corner-here ring i h = corners-cons ring i (omega (arith, h)) ∙ ap (λ k. corn
 
 pub corners-over : (ring : List ℤ) (i : ℕ) → length ring / 2 ≤ i → drop i (cornersOf ring) ≡ []
 corners-over ring i h = drop-of-length-le (cornersOf ring) {i = i} (let l = corners-length ring in omega (arith, l, h))
-
-closed-more : (p : Point) (ring : List Point) → closed (p ∷ ring) ≡ (p ∷ ring) ++ (p ∷ [])
-unfolding closed
-closed-more p ring = refl
 
 ring-is : (ring : List ℤ) → 1 < length ring → ringText (closed (cornersOf ring)) ≡ (leads pairText 0 (cornersOf ring) ++ (lead 1 ++ pairText (cornerAt ring 0))) ++ (41 ∷ [])
 unfolding cornersOf closed

@@ -1,13 +1,11 @@
 -- `writer::corner_count` meets its contract.
 use mathlib.Core.Path.{ap, _∙_}
-use Prim.Native.Nat.{_≤_}
-use lib.ListN.{getD, drop-of-length-le}
+use Prim.Native.Nat.{_≤_, _-_}
+use lib.ListN.{getD, drop-of-length-le, length}
 use lib.Seq.{drop-cons}
 use Rattle.rules.specs.Lists.{total}
 use Rattle.writer.proofs.Sums.{map-same, Summed, summed, summed-on, sum-within, summed-up}
-use Prim.Native.Nat.{_-_}
 use native.Mathlib.Omega.{arith}
-use lib.ListN.{length}
 use borrow.Author.Needs.{needs}
 use Rattle.writer.proofs.corner_count.Statement.{statement}
 use Rattle.writer.proofs.corner_count.Tie as tie

@@ -1,9 +1,9 @@
--- `scanner::rings::store_number` meets its contract.
+-- `scanner::tables::store_number` meets its contract.
 use mathlib.Core.Path.{sym}
 use borrow.Author.Needs.{needs}
 use lib.Seq.{set-out}
-use Rattle.scanner.proofs.rings.store_number.Statement.{statement}
-use Rattle.scanner.proofs.rings.store_number.Tie as tie
+use Rattle.scanner.proofs.tables.store_number.Statement.{statement}
+use Rattle.scanner.proofs.tables.store_number.Tie as tie
 
 mul-value : tie.Need-mul-value
 mul-value c = search needs

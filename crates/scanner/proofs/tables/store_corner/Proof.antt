@@ -1,4 +1,4 @@
--- `scanner::rings::store_corner` meets its contract.
+-- `scanner::tables::store_corner` meets its contract.
 use mathlib.Core.Path.{_≡_, sym, ap, ap₂, _∙_}
 use Prim.Native.Nat.{_*_, _+_}
 use borrow.Author.Needs.{needs}
@@ -6,8 +6,8 @@ use mir.Syntax.{w64}
 use mir.Val.{toZ, ofZ}
 use lib.ListN.{set}
 use Rattle.scanner.proofs.Puts.{put-two}
-use Rattle.scanner.proofs.rings.store_corner.Statement.{statement}
-use Rattle.scanner.proofs.rings.store_corner.Tie as tie
+use Rattle.scanner.proofs.tables.store_corner.Statement.{statement}
+use Rattle.scanner.proofs.tables.store_corner.Tie as tie
 
 mul-store-number : tie.Need-mul-store-number
 mul-store-number c = search needs

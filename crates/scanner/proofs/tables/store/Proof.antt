@@ -1,9 +1,9 @@
--- `scanner::rings::store` meets its contract.
+-- `scanner::tables::store` meets its contract.
 use mathlib.Core.Path.{sym}
 use borrow.Author.Needs.{needs}
 use lib.Seq.{set-out}
-use Rattle.scanner.proofs.rings.store.Statement.{statement}
-use Rattle.scanner.proofs.rings.store.Tie as tie
+use Rattle.scanner.proofs.tables.store.Statement.{statement}
+use Rattle.scanner.proofs.tables.store.Tie as tie
 
 mul-table : tie.Need-mul-table
 mul-table c = search needs

@@ -1,12 +1,12 @@
--- `scanner::members::matched` meets its contract.
+-- `scanner::words::matched` meets its contract.
 use mathlib.Core.Path.{_≡_, sym, _∙_}
 use Prim.Native.Nat.{_+_, _-_, _≤_, _<_}
 use native.Mathlib.Omega.{arith}
 use borrow.Author.Needs.{needs}
 use lib.ListN.{length, getD}
 use Rattle.scanner.proofs.WordScans.{none-matched, one-matched}
-use Rattle.scanner.proofs.members.matched.Statement.{statement}
-use Rattle.scanner.proofs.members.matched.Tie as tie
+use Rattle.scanner.proofs.words.matched.Statement.{statement}
+use Rattle.scanner.proofs.words.matched.Tie as tie
 
 abbrev Inv-loop : tie.InvT-loop
 Inv-loop text at word n₀ n = (n ≤ length word) × ((j : Prim.Native.Nat.ℕ) → j < n → getD text (at + j) 0 ≡ getD word j 0)
