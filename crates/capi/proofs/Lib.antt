@@ -1,4 +1,5 @@
 pub mod Readings
 pub mod Namings
 pub mod Sessions
+pub mod RoundTrip
 mod Caught

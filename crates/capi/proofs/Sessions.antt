@@ -203,7 +203,7 @@ mark-other : (m : Bool) → (markNumber m ≡ 0 → ⊥) → m ≡ true
 mark-other true off = refl
 mark-other false off = absurd (off refl)
 
-positive : (refusal : Refusal) → refusalNumber refusal ≡ 0 → ⊥
+pub positive : (refusal : Refusal) → refusalNumber refusal ≡ 0 → ⊥
 positive TextTooLong e = omega arith
 positive (BadLine line) e = omega arith
 positive Uneven e = omega arith

@@ -4,23 +4,15 @@ use mathlib.Core.List.{List}
 use Prim.Native.Nat.{ℕ}
 use lib.IntN.{ℤ}
 use Rattle.rules.specs.declared.Kind.the-variants.{Tree}
-use Rattle.rules.specs.declared.Refusal.the-variants.{Unsound}
-use Rattle.rules.specs.declared.Verdict.{Verdict}
-use Rattle.rules.specs.declared.Verdict as Verdict
 use Rattle.rules.specs.Plans.{planVerdict}
 use Rattle.states.specs.declared.NamedKind.{NamedKind}
 use Rattle.states.specs.declared.NamedKind as NamedKind
 use Rattle.wkt.specs.declared.numbers.WriteNumbers.{WriteNumbers}
 use Rattle.wkt.specs.declared.write.Writing.{Writing}
-use Rattle.wkt.specs.declared.write.Writing.the-variants.{Refused}
 use Rattle.wkt.specs.Numbers.{writeNumbers}
-use Rattle.wkt.specs.Writings.{WktWritten}
+use Rattle.wkt.specs.Writings.{unnamedWriting, WktWritten}
 
--- where the number names no kind: 4 and 3 come first, as a tree has them, then 15
-abbrev pub unnamedWriting : Verdict → Writing
-unnamedWriting Verdict.the-variants.Accepted = Refused Unsound
-unnamedWriting (Verdict.the-variants.Refused refusal) = Refused refusal
-
+-- by what is promised of a plan of this kind; where the number names no kind, its own answer, and the output as it was
 abbrev pub WriteSays : NamedKind → List ℤ → List ℕ → List ℕ → List ℕ → List ℕ → WriteNumbers → Type 0
 WriteSays NamedKind.the-variants.Unknown coordinates lengths counts output output′ answer = (output′ ≡ output) × (answer ≡ writeNumbers (unnamedWriting (planVerdict (record { kind = Tree; coordinates = coordinates; lengths = lengths; counts = counts }))))
 WriteSays (NamedKind.the-variants.Known kind) coordinates lengths counts output output′ answer = (writing : Writing) × WktWritten (record { kind = kind; coordinates = coordinates; lengths = lengths; counts = counts }) output output′ writing × (answer ≡ writeNumbers writing)

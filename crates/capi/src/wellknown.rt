@@ -1,16 +1,10 @@
 // Well-Known Text for a server: a text read into tables that it lends, and a plan written into an output that it lends (document 02, R-1).
 ghost use mathlib.Core.Path.{_≡_};
-ghost use Rattle.rules.specs.declared.Kind.the-variants.{Tree};
-ghost use Rattle.rules.specs.Plans.{planVerdict};
 ghost use Rattle.states.specs.States.{kindNamed};
 ghost use Rattle.text.specs.declared.Reading.{Reading};
 ghost use Rattle.wkt.specs.Numbers.{readNumbers};
 ghost use Rattle.wkt.specs.Readings.{WktRead};
-ghost use Rattle.capi.specs.WellKnown.{unnamedWriting, WriteSays};
-use plans::judge;
-use rules::Kind;
-use rules::Refusal;
-use rules::Verdict;
+ghost use Rattle.capi.specs.WellKnown.{WriteSays};
 use states::NamedKind;
 use states::kind_of;
 use wkt::numbers::ReadNumbers;
@@ -18,7 +12,7 @@ use wkt::numbers::WriteNumbers;
 use wkt::numbers::read_numbers;
 use wkt::numbers::write_numbers;
 use wkt::read::read_wkt;
-use wkt::write::Writing;
+use wkt::write::unnamed_writing;
 use wkt::write::write_wkt;
 
 /// Reads Well-Known Text into the tables that it is lent: `wkt::read::read_wkt` in numbers.
@@ -36,20 +30,10 @@ pub extern "C" fn findspot_read_wkt(
     read_numbers(read_wkt(text, corners, lengths, counts))
 }
 
-// What writing answers where the number names no kind: 4 and 3 as a tree has them, else 15.
-fn unnamed_writing(coordinates: &[i64], lengths: &[usize], counts: &[usize]) -> Writing
-    ensures { λ r. ⌜ r ≡ unnamedWriting (planVerdict (record { kind = Tree; coordinates = now (coordinates .entry); lengths = now (lengths .entry); counts = now (counts .entry) })) ⌝ }
-{
-    match judge(Kind::Tree, coordinates, lengths, counts) {
-        Verdict::Accepted => Writing::Refused(Refusal::Unsound),
-        Verdict::Refused(refusal) => Writing::Refused(refusal),
-    }
-}
-
 /// Writes a plan of kind 0 (a list) as Well-Known Text into the output that it is lent: `wkt::write::write_wkt` in numbers.
 ///
-/// Refused with 4, 3, 22 (kind 1, a tree, too), 1, or 11 and table 6, in this order; then nothing is written. Where the kind is another number, with 4
-/// and 3 as a tree has them, else with 15.
+/// Refused with 4, 3, 22 (kind 1, a tree, too), 1, or 11 and table 6, in this order; then nothing is written. Where the kind is another number,
+/// with 4 and 3 as a tree has them, else with 15.
 #[no_mangle]
 pub extern "C" fn findspot_write_wkt(
     kind: usize,

@@ -1,6 +1,6 @@
 -- What completes a text in each mode, and that something does in each mode that is not `Broken`. Assumes nothing.
 use mathlib.Core.Path.{_≡_, refl, ap, sym, subst, _∙_}
-use mathlib.Core.Bool.{Bool, true, false, cond}
+use mathlib.Core.Bool.{Bool, true, false, cond, true≢false}
 use mathlib.Core.Logic.{_⊎_, inl, inr}
 use mathlib.Core.List.{List, [], _∷_, _++_, append-assoc, append-nil}
 use Prim.Native.Nat.{ℕ, zero, suc, _+_, _-_, _<_}
@@ -528,9 +528,6 @@ some-y multi = let b = some-ring multi in (decimal (pos 0) ++ b .0, y-left (pos 
 some-x : (multi : Bool) → (s : List ℕ) × XLeft multi s
 some-x multi = let b = some-y multi in (decimal (pos 0) ++ (32 ∷ b .0), x-left (pos 0) none refl (b .1))
 
-falsehood : {A : Type 0} → true ≡ false → A
-falsehood e = absurd (let z : _≡_ {A = ℕ} 0 1 = ap (λ b. cond b 0 1) e in omega arith)
-
 some-left : (mode : Mode) → Sound mode → isBroken mode ≡ false → (s : List ℕ) × Left mode s
 some-left Start h a = (polygon ++ (32 ∷ empty), ([], one-empty none))
 some-left (Word multi k) h a = (drop k (wordOf multi) ++ (32 ∷ empty), due-left (spaced (empty-left none)))
@@ -547,7 +544,7 @@ some-left (InY multi x n) h a = let r = some-ring multi in let c = completed n h
 some-left (AfterY multi p) h a = some-ring multi
 some-left (AfterRing multi) h a = some-rings multi
 some-left Finished h a = ([], none)
-some-left Broken h a = falsehood a
+some-left Broken h a = absurd (true≢false a)
 
 -- ---- the whole text
 
@@ -561,22 +558,22 @@ pub unbroken-begins : (t : List ℕ) → isBroken (modeAfter Start t) ≡ false 
 unbroken-begins t a = let l = some-left (modeAfter Start t) (run-sound Start t tt) a in let g = reach Start t (l .0) tt (l .1) in (l .0, g .0, g .1)
 
 nothing-left : (mode : Mode) → mayEnd mode ≡ true → Left mode []
-nothing-left Start a = falsehood (sym a)
-nothing-left (Word multi k) a = falsehood (sym a)
-nothing-left (Spaced multi) a = falsehood (sym a)
+nothing-left Start a = absurd (true≢false (sym a))
+nothing-left (Word multi k) a = absurd (true≢false (sym a))
+nothing-left (Spaced multi) a = absurd (true≢false (sym a))
 nothing-left (EmptyText k) a = ap (λ n. drop n empty) (sym (eqb-true k 5 a))
-nothing-left WantMember a = falsehood (sym a)
-nothing-left (EmptyMember k) a = falsehood (sym a)
-nothing-left AfterMember a = falsehood (sym a)
-nothing-left (WantRing multi) a = falsehood (sym a)
-nothing-left (WantX multi) a = falsehood (sym a)
-nothing-left (InX multi n) a = falsehood (sym a)
-nothing-left (WantY multi x) a = falsehood (sym a)
-nothing-left (InY multi x n) a = falsehood (sym a)
-nothing-left (AfterY multi p) a = falsehood (sym a)
-nothing-left (AfterRing multi) a = falsehood (sym a)
+nothing-left WantMember a = absurd (true≢false (sym a))
+nothing-left (EmptyMember k) a = absurd (true≢false (sym a))
+nothing-left AfterMember a = absurd (true≢false (sym a))
+nothing-left (WantRing multi) a = absurd (true≢false (sym a))
+nothing-left (WantX multi) a = absurd (true≢false (sym a))
+nothing-left (InX multi n) a = absurd (true≢false (sym a))
+nothing-left (WantY multi x) a = absurd (true≢false (sym a))
+nothing-left (InY multi x n) a = absurd (true≢false (sym a))
+nothing-left (AfterY multi p) a = absurd (true≢false (sym a))
+nothing-left (AfterRing multi) a = absurd (true≢false (sym a))
 nothing-left Finished a = none
-nothing-left Broken a = falsehood (sym a)
+nothing-left Broken a = absurd (true≢false (sym a))
 
 -- bytes behind which a text may end are a text of the grammar
 pub accepted-text : (t : List ℕ) → mayEnd (modeAfter Start t) ≡ true → (polygons : List Polygon) × Text polygons t

@@ -1,6 +1,6 @@
 -- What a text spells, found a byte at a time, is what the grammar says, and the grammar says one thing. Assumes nothing.
 use mathlib.Core.Path.{_≡_, refl, ap, sym, subst, _∙_}
-use mathlib.Core.Bool.{Bool, true, false, cond}
+use mathlib.Core.Bool.{Bool, true, false, cond, true≢false}
 use mathlib.Core.List.{List, [], _∷_, _++_, append-assoc, append-nil}
 use Prim.Native.Nat.{ℕ, suc, _+_, _-_, _<_}
 use native.Mathlib.Omega.{arith}
@@ -47,9 +47,6 @@ unbroken-begun pre h = unbroken-begins pre (sym (ap isBroken (mode-is pre)) ∙ 
 given-one : (st : State) (o p : List Polygon) → Gives st o → Gives st p → o ≡ p
 given-one st o p g h = sym (g .given) ∙ h .given
 
-no : {A : Type 0} → true ≡ false → A
-no e = absurd (let z : _≡_ {A = ℕ} 0 1 = ap (λ b. cond b 0 1) e in omega arith)
-
 -- ---- at the end
 
 end-means : (pre : List ℕ) → isBroken (reached pre .mode) ≡ false → Means pre (cond (mayEnd (reached pre .mode)) (Spells (reached pre .built-so-far .done)) (Breaks (length pre)))
@@ -59,7 +56,7 @@ end-means pre a = go (mayEnd (reached pre .mode)) refl
     go true e =
         let t = accepted-text pre (sym (ap mayEnd (mode-is pre)) ∙ e) in
         subst (λ o. Text o pre) (sym (text-given (t .0) pre (t .1) .given)) (t .1)
-    go false e = record { off = λ o t. no (sym (text-given o pre t .accepts) ∙ e); inside = omega arith; so-far = λ j l. begins-take j pre (unbroken-begun pre a); no-farther = λ l b. omega arith }
+    go false e = record { off = λ o t. absurd (true≢false (sym (text-given o pre t .accepts) ∙ e)); inside = omega arith; so-far = λ j l. begins-take j pre (unbroken-begun pre a); no-farther = λ l b. omega arith }
 
 -- ---- byte by byte
 
@@ -69,7 +66,7 @@ take-next pre b s = let e : suc (length pre) ≡ length pre + 1 = omega arith in
 broken-means : (pre : List ℕ) (b : ℕ) (s : List ℕ) → isBroken (reached pre .mode) ≡ false → isBroken (nextMode (reached pre .mode) b) ≡ true → BreaksAt (pre ++ (b ∷ s)) (length pre)
 unfolding step
 broken-means pre b s a e =
-    let stuck : Begins (pre ++ (b ∷ [])) → ⊥ = λ h. no (sym e ∙ sym (ap (λ st. isBroken (st .mode)) (one-step pre b)) ∙ begun-unbroken (pre ++ (b ∷ [])) h) in
+    let stuck : Begins (pre ++ (b ∷ [])) → ⊥ = λ h. absurd (true≢false (sym e ∙ sym (ap (λ st. isBroken (st .mode)) (one-step pre b)) ∙ begun-unbroken (pre ++ (b ∷ [])) h)) in
     record {
       off = λ o t. stuck (begins-front (pre ++ (b ∷ [])) s (subst Begins (sym (append-assoc pre (b ∷ []) s)) (text-begins o (pre ++ (b ∷ s)) t)));
       inside = omega (arith, length-append pre (b ∷ s));

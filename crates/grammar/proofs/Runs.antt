@@ -1,6 +1,6 @@
 -- Every text of the grammar leads to a mode in which it may end, with its polygons built. Assumes nothing.
 use mathlib.Core.Path.{_≡_, refl, ap, ap₂, sym, _∙_}
-use mathlib.Core.Bool.{Bool, true, false, cond}
+use mathlib.Core.Bool.{Bool, true, false, cond, true≢false}
 use mathlib.Core.List.{List, [], _∷_, _++_, append-assoc, append-nil}
 use Prim.Native.Nat.{ℕ, zero, suc, _+_, _-_, _*_, _/_, _%_, _^_, _≤_, _<_}
 use native.Mathlib.Omega.{arith}
@@ -349,25 +349,22 @@ unfolding modeAfter nextMode
 broken-stays [] = refl
 broken-stays (b ∷ t) = broken-stays t
 
-no : {A : Type 0} → true ≡ false → A
-no e = absurd (let z : _≡_ {A = ℕ} 0 1 = ap (λ b. cond b 0 1) e in omega arith)
-
 broken-is : (mode : Mode) → isBroken mode ≡ true → mode ≡ Broken
-broken-is Start e = no (sym e)
-broken-is (Word multi k) e = no (sym e)
-broken-is (Spaced multi) e = no (sym e)
-broken-is (EmptyText k) e = no (sym e)
-broken-is WantMember e = no (sym e)
-broken-is (EmptyMember k) e = no (sym e)
-broken-is AfterMember e = no (sym e)
-broken-is (WantRing multi) e = no (sym e)
-broken-is (WantX multi) e = no (sym e)
-broken-is (InX multi n) e = no (sym e)
-broken-is (WantY multi x) e = no (sym e)
-broken-is (InY multi x n) e = no (sym e)
-broken-is (AfterY multi p) e = no (sym e)
-broken-is (AfterRing multi) e = no (sym e)
-broken-is Finished e = no (sym e)
+broken-is Start e = absurd (true≢false (sym e))
+broken-is (Word multi k) e = absurd (true≢false (sym e))
+broken-is (Spaced multi) e = absurd (true≢false (sym e))
+broken-is (EmptyText k) e = absurd (true≢false (sym e))
+broken-is WantMember e = absurd (true≢false (sym e))
+broken-is (EmptyMember k) e = absurd (true≢false (sym e))
+broken-is AfterMember e = absurd (true≢false (sym e))
+broken-is (WantRing multi) e = absurd (true≢false (sym e))
+broken-is (WantX multi) e = absurd (true≢false (sym e))
+broken-is (InX multi n) e = absurd (true≢false (sym e))
+broken-is (WantY multi x) e = absurd (true≢false (sym e))
+broken-is (InY multi x n) e = absurd (true≢false (sym e))
+broken-is (AfterY multi p) e = absurd (true≢false (sym e))
+broken-is (AfterRing multi) e = absurd (true≢false (sym e))
+broken-is Finished e = absurd (true≢false (sym e))
 broken-is Broken e = refl
 
 pub begins-unbroken : (t : List ℕ) → Begins t → isBroken (modeAfter Start t) ≡ false
@@ -375,4 +372,4 @@ begins-unbroken t b = go (isBroken (modeAfter Start t)) refl
   where
     go : (d : Bool) → isBroken (modeAfter Start t) ≡ d → d ≡ false
     go false e = refl
-    go true e = no (sym (text-given (b .1) (t ++ b .0) (b .2) .accepts) ∙ ap mayEnd (run-mode (at Start nothing) (t ++ b .0) ∙ mode-append Start t (b .0) ∙ ap (λ m. modeAfter m (b .0)) (broken-is (modeAfter Start t) e) ∙ broken-stays (b .0)))
+    go true e = absurd (true≢false (sym (text-given (b .1) (t ++ b .0) (b .2) .accepts) ∙ ap mayEnd (run-mode (at Start nothing) (t ++ b .0) ∙ mode-append Start t (b .0) ∙ ap (λ m. modeAfter m (b .0)) (broken-is (modeAfter Start t) e) ∙ broken-stays (b .0))))

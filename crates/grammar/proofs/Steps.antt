@@ -8,11 +8,11 @@ use native.Mathlib.Numerals.{add-one}
 use native.Mathlib.Omega.{arith}
 use lib.ListN.{length, getD, drop-of-length-le, List·getD-eq-default}
 use lib.Seq.{drop-cons}
-use Rattle.grammar.specs.declared.Mark.{Mark}
+use Rattle.grammar.specs.declared.NextByte.{NextByte}
 use Rattle.grammar.specs.Modes.{Mode, Broken, Event, Nothing, nextMode, eventOf}
 use Rattle.grammar.specs.Spellings.{Spells, Breaks}
 use Rattle.grammar.specs.Scans.{So-far, built, mayEnd, isBroken, read, readFrom}
-use Rattle.grammar.specs.Tokens.{Resting, MarkRead}
+use Rattle.grammar.specs.Tokens.{Resting, NextRead}
 
 module _ (text : List ℕ) (at : ℕ) (mode : Mode) (f : So-far) where
   here : at < length text → readFrom text at mode f ≡ cond (isBroken (nextMode mode (getD text at 0))) (Breaks at) (readFrom text (at + 1) (nextMode mode (getD text at 0)) (built f (eventOf mode (getD text at 0))))
@@ -61,23 +61,23 @@ alike text at mode other f n e m = go (decLt at (length text))
 
 -- ---- a byte behind spaces
 
-module _ (text : List ℕ) (at : ℕ) (m : Mark) (g : MarkRead text at m) where
-  pub mark-inside : (b : ℕ) → m .byte ≡ suc b → m .at < length text
-  mark-inside b e = go (decLt (m .at) (length text))
+module _ (text : List ℕ) (at : ℕ) (m : NextByte) (g : NextRead text at m) where
+  pub byte-inside : (b : ℕ) → m .byte ≡ suc b → m .at < length text
+  byte-inside b e = go (decLt (m .at) (length text))
     where
       go : Dec (m .at < length text) → m .at < length text
       go (yes h) = h
       go (no h) = absurd (let z = List·getD-eq-default text 0 {n = m .at} (omega arith) in let k = g .byte in omega arith)
 
   -- it leads on
-  pub mark-leads : (mode : Mode) (f : So-far) (b : ℕ) (next : Mode) (event : Event) → Resting mode → m .byte ≡ suc b → nextMode mode (suc b) ≡ next → eventOf mode (suc b) ≡ event → isBroken next ≡ false → readFrom text at mode f ≡ readFrom text (m .at + 1) next (built f event)
-  mark-leads mode f b next event r e n v w =
+  pub byte-leads : (mode : Mode) (f : So-far) (b : ℕ) (next : Mode) (event : Event) → Resting mode → m .byte ≡ suc b → nextMode mode (suc b) ≡ next → eventOf mode (suc b) ≡ event → isBroken next ≡ false → readFrom text at mode f ≡ readFrom text (m .at + 1) next (built f event)
+  byte-leads mode f b next event r e n v w =
       let same : getD text (m .at) 0 ≡ suc b = sym (g .byte) ∙ e in
-      g .skipped .same mode f r ∙ leads text (m .at) mode f next event (mark-inside b e) (ap (nextMode mode) same ∙ n) (ap (eventOf mode) same ∙ v) w
+      g .skipped .same mode f r ∙ leads text (m .at) mode f next event (byte-inside b e) (ap (nextMode mode) same ∙ n) (ap (eventOf mode) same ∙ v) w
 
   -- no text goes on with it
-  pub mark-refused : (mode : Mode) (f : So-far) → Resting mode → mayEnd mode ≡ false → ((m .byte ≡ 32 → ⊥) → nextMode mode (m .byte) ≡ Broken) → readFrom text at mode f ≡ Breaks (m .at)
-  mark-refused mode f r e n = g .skipped .same mode f r ∙ go (decLt (m .at) (length text))
+  pub byte-refused : (mode : Mode) (f : So-far) → Resting mode → mayEnd mode ≡ false → ((m .byte ≡ 32 → ⊥) → nextMode mode (m .byte) ≡ Broken) → readFrom text at mode f ≡ Breaks (m .at)
+  byte-refused mode f r e n = g .skipped .same mode f r ∙ go (decLt (m .at) (length text))
     where
       go : Dec (m .at < length text) → readFrom text (m .at) mode f ≡ Breaks (m .at)
       go (yes h) = leaves text (m .at) mode f h (ap (nextMode mode) (sym (g .byte)) ∙ n (λ s. g .skipped .stops h (sym (g .byte) ∙ s)))

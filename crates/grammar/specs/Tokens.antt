@@ -4,7 +4,7 @@ use mathlib.Core.Bool.{Bool, false}
 use mathlib.Core.List.{List}
 use Prim.Native.Nat.{ℕ, _≤_, _<_}
 use lib.ListN.{length, getD}
-use Rattle.grammar.specs.declared.Mark.{Mark}
+use Rattle.grammar.specs.declared.NextByte.{NextByte}
 use Rattle.grammar.specs.declared.numbers.Token.{Token}
 use Rattle.grammar.specs.declared.numbers.Token.the-variants as Token
 use Rattle.grammar.specs.Numbers.{Whole, Begun, Value, isDigit, wholeOf}
@@ -27,7 +27,7 @@ pub record Skipped (text : List ℕ) (at r : ℕ) : Type 0 where
   pub same : (mode : Mode) (f : So-far) → Resting mode → readFrom text at mode f ≡ readFrom text r mode f
 
 -- a byte and its place, behind the spaces; 0 at the text's end
-pub record MarkRead (text : List ℕ) (at : ℕ) (m : Mark) : Type 0 where
+pub record NextRead (text : List ℕ) (at : ℕ) (m : NextByte) : Type 0 where
   pub skipped : Skipped text at (m .at)
   pub byte : m .byte ≡ getD text (m .at) 0
 

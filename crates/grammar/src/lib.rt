@@ -2,7 +2,7 @@
 ghost use mathlib.Core.Path.{_≡_};
 ghost use Prim.Native.Nat.{_≤_};
 ghost use lib.ListN.{length, getD};
-ghost use Rattle.grammar.specs.Tokens.{Skipped, MarkRead};
+ghost use Rattle.grammar.specs.Tokens.{Skipped, NextRead};
 
 pub mod numbers;
 
@@ -31,18 +31,18 @@ pub fn byte_at(text: &[u8], at: usize) -> u8
     0
 }
 
-/// A byte of a text and its place.
-pub struct Mark {
+/// A byte of a text, and its place.
+pub struct NextByte {
     pub at: usize,
     pub byte: u8,
 }
 
 /// The first byte of a text, from a place on, that is no space, and its place; 0 at the text's end.
-pub fn next_mark(text: &[u8], at: usize) -> Mark
+pub fn next_byte(text: &[u8], at: usize) -> NextByte
     requires { ⌜ at ≤ length (now text) ⌝ }
-    ensures { λ r. ⌜ MarkRead (now (text .entry)) at r ⌝ }
+    ensures { λ r. ⌜ NextRead (now (text .entry)) at r ⌝ }
 {
     let place = skip_spaces(text, at);
     let byte = byte_at(text, place);
-    Mark { at: place, byte }
+    NextByte { at: place, byte }
 }

@@ -11,7 +11,7 @@ use crate::skip_spaces;
 pub enum Token {
     /// A number, and the place behind it.
     Number(i64, usize),
-    /// 21: the place up to which no text of the grammar begins so.
+    /// 21: the place of the first byte up to which no text of the grammar begins so, or the text's length.
     Off(usize),
 }
 

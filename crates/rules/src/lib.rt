@@ -23,7 +23,7 @@ pub enum Table {
 
 /// Why a call is refused. `refusal_number` and `refusal_detail` give the numbers of document 01 and of document 02's requests.
 pub enum Refusal {
-    /// 1: the text is too long.
+    /// 1: the text is too long, to be read or to be written.
     TextTooLong,
     /// 2: the first line that breaks the text's rules, counted from 1.
     BadLine(usize),
@@ -45,10 +45,10 @@ pub enum Refusal {
     NothingToUndo,
     /// 15: the tables are not sound.
     Unsound,
-    /// 21: a text off the grammar of Well-Known Text, and the place, from 0, of the byte at which it leaves it (document 02, R-1).
+    /// 21: a text off the grammar of Well-Known Text, and the place, from 0, at which it leaves it (document 02, R-1).
     OffGrammar(usize),
-    /// 22: a ring whose ends differ or of fewer than two positions in Well-Known Text; in a plan to be written as such, a tree or an
-    /// empty ring, which it has no closed rings for (document 02, R-1).
+    /// 22: in Well-Known Text a ring whose ends differ or of fewer than two positions; in a plan to be written as Well-Known Text a tree or
+    /// an empty ring (document 02, R-1).
     Unclosed,
 }
 

@@ -8,15 +8,15 @@ use lib.IntN.{ℤ}
 use lib.ListN.{length, length-append}
 use borrow.Author.Tests.{ne-eqb}
 use Rattle.rules.specs.Lists.{total}
-use Rattle.grammar.specs.declared.Mark.{Mark}
+use Rattle.grammar.specs.declared.NextByte.{NextByte}
 use Rattle.grammar.specs.Grammar.{Polygon}
 use Rattle.grammar.specs.Modes.{Broken, WantMember, EmptyMember, AfterMember, WantRing, Finished, Nothing, nextMode, eventOf}
 use Rattle.grammar.specs.Spellings.{Breaks}
 use Rattle.grammar.specs.Scans.{readFrom}
-use Rattle.grammar.specs.Tokens.{Resting, MarkRead}
+use Rattle.grammar.specs.Tokens.{Resting, NextRead}
 use Rattle.grammar.specs.Plans.{coordinates, everyClosed}
 use Rattle.grammar.specs.Plans as Plans
-use Rattle.grammar.proofs.Steps.{stops-early, mark-leads, mark-refused}
+use Rattle.grammar.proofs.Steps.{stops-early, byte-leads, byte-refused}
 use Rattle.grammar.proofs.Tables.{coordinates-append, lengths-append, counts-append, total-append, coordinates-twice, every-append, and-assoc, and-true}
 use Rattle.scanner.specs.declared.Extent.{Extent}
 use Rattle.scanner.specs.declared.Scan.{Scan}
@@ -90,9 +90,9 @@ neither : (b : ℕ) → (b ≡ 32 → ⊥) → (b ≡ 40 → ⊥) → (b ≡ 69 
 unfolding nextMode
 neither b s o e = rw (ne-eqb b 32 s, ne-eqb b 40 o, ne-eqb b 69 e) refl
 
-module _ (text : List ℕ) (at : ℕ) (m : Mark) (k : MarkRead text at m) where
+module _ (text : List ℕ) (at : ℕ) (m : NextByte) (k : NextRead text at m) where
   pub member-off : (m .byte ≡ 40 → ⊥) → (m .byte ≡ 69 → ⊥) → (done : List Polygon) → readFrom text at WantMember (soFar done []) ≡ Breaks (m .at)
-  member-off o e done = mark-refused text at m k WantMember (soFar done []) want-rests refl (λ s. neither (m .byte) s o e)
+  member-off o e done = byte-refused text at m k WantMember (soFar done []) want-rests refl (λ s. neither (m .byte) s o e)
 
   pub member-opened : (e : Extent) (c c′ : List ℤ) (l l′ n n′ : List ℕ) (r : Scan) → m .byte ≡ 40 → PolygonScanned text (m .at + 1) e c c′ l l′ n n′ r → MemberScanned text at e c c′ l l′ n n′ r
   member-opened e c c′ l l′ n n′ (Read e′ end) o g =
@@ -100,16 +100,16 @@ module _ (text : List ℕ) (at : ℕ) (m : Mark) (k : MarkRead text at m) where
       let h = g .on in
       record {
         added = g .rings ∷ [];
-        means = λ done. mark-leads text at m k WantMember (soFar done []) 39 (WantRing true) Nothing want-rests o (opens .0) (opens .1) refl ∙ g .means true done;
+        means = λ done. byte-leads text at m k WantMember (soFar done []) 39 (WantRing true) Nothing want-rests o (opens .0) (opens .1) refl ∙ g .means true done;
         adds = g .adds;
         on = omega arith;
         inside = g .inside;
         few = g .few;
       }
-  member-opened e c c′ l l′ n n′ (Off place) o g = λ done. mark-leads text at m k WantMember (soFar done []) 39 (WantRing true) Nothing want-rests o (opens .0) (opens .1) refl ∙ g true done
+  member-opened e c c′ l l′ n n′ (Off place) o g = λ done. byte-leads text at m k WantMember (soFar done []) 39 (WantRing true) Nothing want-rests o (opens .0) (opens .1) refl ∙ g true done
 
   first-byte : (done : List Polygon) → m .byte ≡ 69 → readFrom text at WantMember (soFar done []) ≡ readFrom text (m .at + 1) (EmptyMember 1) (soFar done [])
-  first-byte done e = mark-leads text at m k WantMember (soFar done []) 68 (EmptyMember 1) Nothing want-rests e (empties .0) (empties .1) refl
+  first-byte done e = byte-leads text at m k WantMember (soFar done []) 68 (EmptyMember 1) Nothing want-rests e (empties .0) (empties .1) refl
 
   pub empty-off : (r : ℕ) → m .byte ≡ 69 → Matched text (m .at + 1) (77 ∷ 80 ∷ 84 ∷ 89 ∷ []) r → r < 4 → (done : List Polygon) → readFrom text at WantMember (soFar done []) ≡ Breaks (m .at + 1 + r)
   empty-off r e w h done = first-byte done e ∙ word-off text (m .at + 1) _ _ member-spelt r w (soFar done []) h
@@ -182,7 +182,7 @@ module _ (text : List ℕ) (at : ℕ) (corners₀ corners : List ℤ) (lengths�
   pub next-off : (broken : ℕ) → ((done : List Polygon) → readFrom text place WantMember (soFar done []) ≡ Breaks broken) → readFrom text at WantMember (soFar [] []) ≡ Breaks broken
   next-off broken r = g .means ∙ r (g .polygons)
 
-  module _ (corners′ : List ℤ) (lengths′ counts′ : List ℕ) (more : Extent) (end : ℕ) (q : MemberThere text place so-far corners corners′ lengths lengths′ counts counts′ more end) (m : Mark) (k : MarkRead text end m) where
+  module _ (corners′ : List ℤ) (lengths′ counts′ : List ℕ) (more : Extent) (end : ℕ) (q : MemberThere text place so-far corners corners′ lengths lengths′ counts counts′ more end) (m : NextByte) (k : NextRead text end m) where
     with-it : readFrom text at WantMember (soFar [] []) ≡ readFrom text end AfterMember (soFar (g .polygons ++ q .added) [])
     with-it = g .means ∙ q .means (g .polygons)
 
@@ -190,7 +190,7 @@ module _ (text : List ℕ) (at : ℕ) (corners₀ corners : List ℤ) (lengths�
     adds-it = adds-both noExtent so-far more corners₀ corners corners′ lengths₀ lengths lengths′ counts₀ counts counts′ (g .polygons) (q .added) (g .adds) (q .adds)
 
     pub behind-off : (m .byte ≡ 44 → ⊥) → (m .byte ≡ 41 → ⊥) → readFrom text at WantMember (soFar [] []) ≡ Breaks (m .at)
-    behind-off c r = with-it ∙ mark-refused text end m k AfterMember (soFar (g .polygons ++ q .added) []) after-rests refl (λ s. other (m .byte) s c r)
+    behind-off c r = with-it ∙ byte-refused text end m k AfterMember (soFar (g .polygons ++ q .added) []) after-rests refl (λ s. other (m .byte) s c r)
 
     pub one-more : m .byte ≡ 44 → m .at < length text → Members text at corners₀ corners′ lengths₀ lengths′ counts₀ counts′ more (m .at + 1)
     one-more c h =
@@ -200,7 +200,7 @@ module _ (text : List ℕ) (at : ℕ) (corners₀ corners : List ℤ) (lengths�
         let z = q .few .polygons in
         record {
           polygons = g .polygons ++ q .added;
-          means = with-it ∙ mark-leads text end m k AfterMember (soFar (g .polygons ++ q .added) []) 43 WantMember Nothing after-rests c (comma .0) (comma .1) refl;
+          means = with-it ∙ byte-leads text end m k AfterMember (soFar (g .polygons ++ q .added) []) 43 WantMember Nothing after-rests c (comma .0) (comma .1) refl;
           adds = adds-it;
           inside = omega arith;
           few = record { corners = omega arith; rings = omega arith; polygons = omega arith };
@@ -210,7 +210,7 @@ module _ (text : List ℕ) (at : ℕ) (corners₀ corners : List ℤ) (lengths�
     members-whole c h =
         record {
           polygons = g .polygons ++ q .added;
-          means = with-it ∙ mark-leads text end m k AfterMember (soFar (g .polygons ++ q .added) []) 40 Finished Nothing after-rests c (bracket .0) (bracket .1) refl;
+          means = with-it ∙ byte-leads text end m k AfterMember (soFar (g .polygons ++ q .added) []) 40 Finished Nothing after-rests c (bracket .0) (bracket .1) refl;
           adds = adds-it;
           inside = omega arith;
         }

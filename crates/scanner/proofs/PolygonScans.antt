@@ -8,16 +8,16 @@ use lib.IntN.{ℤ}
 use lib.ListN.{length, set, length-append}
 use borrow.Author.Tests.{ne-eqb}
 use Rattle.rules.specs.Lists.{total}
-use Rattle.grammar.specs.declared.Mark.{Mark}
+use Rattle.grammar.specs.declared.NextByte.{NextByte}
 use Rattle.grammar.specs.Grammar.{Ring, Polygon}
 use Rattle.grammar.specs.Modes.{Broken, WantRing, AfterRing, Nothing, PolygonEnds, nextMode, eventOf}
 use Rattle.grammar.specs.Spellings.{Breaks}
 use Rattle.grammar.specs.Scans.{isBroken, readFrom}
-use Rattle.grammar.specs.Tokens.{Resting, MarkRead}
+use Rattle.grammar.specs.Tokens.{Resting, NextRead}
 use Rattle.grammar.specs.Texts.{dropLast}
 use Rattle.grammar.specs.Plans.{isClosed, numbersOf, ringNumbers, ringLengths, allClosed, everyClosed, coordinates}
 use Rattle.grammar.specs.Plans as Plans
-use Rattle.grammar.proofs.Steps.{stops-early, mark-leads, mark-refused}
+use Rattle.grammar.proofs.Steps.{stops-early, byte-leads, byte-refused}
 use Rattle.grammar.proofs.Tables.{rings-append, ring-lengths-append, total-append, rings-twice, lengths-counted, closed-append, and-assoc, and-true}
 use Rattle.scanner.specs.declared.Extent.{Extent}
 use Rattle.scanner.specs.Puts.{put}
@@ -140,9 +140,9 @@ module _ (text : List ℕ) (at : ℕ) (e : Extent) (corners₀ corners : List �
     pub rings-now : more .rings ≡ e .rings + length (g .rings ++ (q .ring ∷ []))
     rings-now = ap (λ z. z .rings) more-is
 
-    module _ (m : Mark) (k : MarkRead text end m) where
+    module _ (m : NextByte) (k : NextRead text end m) where
       pub behind-off : (m .byte ≡ 44 → ⊥) → (m .byte ≡ 41 → ⊥) → (multi : Bool) (done : List Polygon) → readFrom text at (WantRing multi) (soFar done []) ≡ Breaks (m .at)
-      behind-off c r multi done = means-it multi done ∙ mark-refused text end m k (AfterRing multi) (soFar done (g .rings ++ (q .ring ∷ []))) (after-rests multi) refl (λ s. other multi (m .byte) s c r)
+      behind-off c r multi done = means-it multi done ∙ byte-refused text end m k (AfterRing multi) (soFar done (g .rings ++ (q .ring ∷ []))) (after-rests multi) refl (λ s. other multi (m .byte) s c r)
 
       pub one-more : m .byte ≡ 44 → m .at < length text → Rings text at e corners₀ corners′ lengths₀ lengths′ more (m .at + 1)
       one-more c h =
@@ -155,7 +155,7 @@ module _ (text : List ℕ) (at : ℕ) (e : Extent) (corners₀ corners : List �
           record {
             rings = g .rings ++ (q .ring ∷ []);
             counted = more-is;
-            means = λ multi done. means-it multi done ∙ mark-leads text end m k (AfterRing multi) (soFar done (g .rings ++ (q .ring ∷ []))) 43 (WantRing multi) Nothing (after-rests multi) c (comma multi .0) (comma multi .1) refl;
+            means = λ multi done. means-it multi done ∙ byte-leads text end m k (AfterRing multi) (soFar done (g .rings ++ (q .ring ∷ []))) 43 (WantRing multi) Nothing (after-rests multi) c (comma multi .0) (comma multi .1) refl;
             corners-held = corners-are;
             lengths-held = lengths-are;
             on = omega arith;
@@ -176,7 +176,7 @@ module _ (text : List ℕ) (at : ℕ) (e : Extent) (corners₀ corners : List �
           let left : more .rings - e .rings ≡ length (g .rings ++ (q .ring ∷ [])) = omega arith in
           record {
             rings = g .rings ++ (q .ring ∷ []);
-            means = λ multi done. means-it multi done ∙ mark-leads text end m k (AfterRing multi) (soFar done (g .rings ++ (q .ring ∷ []))) 40 (afterPolygon multi) PolygonEnds (after-rests multi) c (bracket multi .0) (bracket multi .1) (after-whole multi);
+            means = λ multi done. means-it multi done ∙ byte-leads text end m k (AfterRing multi) (soFar done (g .rings ++ (q .ring ∷ []))) 40 (afterPolygon multi) PolygonEnds (after-rests multi) c (bracket multi .0) (bracket multi .1) (after-whole multi);
             adds = record {
               counted = made ∙ ap withPolygon more-is ∙ one-polygon e (g .rings ++ (q .ring ∷ []));
               corners-put = corners-are ∙ ap (λ xs. put (2 * e .corners) xs corners₀) (sym (append-nil (ringNumbers (g .rings ++ (q .ring ∷ [])))));

@@ -8,16 +8,16 @@ use lib.IntN.{ℤ}
 use lib.ListN.{length, set, length-append}
 use borrow.Author.Tests.{eq-eqb, ne-eqb}
 use Rattle.geom.specs.declared.Point.{Point}
-use Rattle.grammar.specs.declared.Mark.{Mark}
+use Rattle.grammar.specs.declared.NextByte.{NextByte}
 use Rattle.grammar.specs.Grammar.{Ring, Polygon}
 use Rattle.grammar.specs.Modes.{Broken, WantRing, WantX, Nothing, AfterY, AfterRing, Place, Corner, RingEnds, nextMode, eventOf}
 use Rattle.grammar.specs.Spellings.{Breaks}
 use Rattle.grammar.specs.Scans.{placeOf, readFrom}
-use Rattle.grammar.specs.Tokens.{Resting, MarkRead}
+use Rattle.grammar.specs.Tokens.{Resting, NextRead}
 use Rattle.grammar.specs.Texts.{dropLast}
 use Rattle.grammar.specs.Plans.{samePoint, isClosed, numbersOf}
 use Rattle.grammar.proofs.Runs.{point-back}
-use Rattle.grammar.proofs.Steps.{stops-early, mark-leads, mark-refused}
+use Rattle.grammar.proofs.Steps.{stops-early, byte-leads, byte-refused}
 use Rattle.grammar.proofs.Tables.{numbers-append, numbers-twice, lone-open, closed-by}
 use Rattle.grammar.proofs.Texts.{drop-last}
 use Rattle.scanner.specs.declared.Extent.{Extent}
@@ -89,12 +89,12 @@ module _ (text : List ℕ) (at n : ℕ) (corners₀ corners : List ℤ) (first :
   pub position-off : (broken : ℕ) → PositionRead text place (Position.the-variants.Off broken) → (multi : Bool) (done : List Polygon) (rings : Polygon) → readFrom text at (WantX multi) (soFar done rings) ≡ Breaks broken
   position-off broken q multi done rings = g .means multi done rings ∙ q .means multi (record { done = done; rings = rings; ring = g .points })
 
-  module _ (p : Point) (end : ℕ) (q : PositionRead text place (Position.the-variants.At p end)) (m : Mark) (k : MarkRead text end m) where
+  module _ (p : Point) (end : ℕ) (q : PositionRead text place (Position.the-variants.At p end)) (m : NextByte) (k : NextRead text end m) where
     pub mark-off : (m .byte ≡ 44 → ⊥) → (m .byte ≡ 41 → ⊥) → (multi : Bool) (done : List Polygon) (rings : Polygon) → readFrom text at (WantX multi) (soFar done rings) ≡ Breaks (m .at)
     mark-off c r multi done rings =
         g .means multi done rings
         ∙ q .means multi (record { done = done; rings = rings; ring = g .points })
-        ∙ mark-refused text end m k (AfterY multi (placeOf p)) (record { done = done; rings = rings; ring = g .points }) (after-rests multi (placeOf p)) refl (λ s. other multi (placeOf p) (m .byte) s c r)
+        ∙ byte-refused text end m k (AfterY multi (placeOf p)) (record { done = done; rings = rings; ring = g .points }) (after-rests multi (placeOf p)) refl (λ s. other multi (placeOf p) (m .byte) s c r)
 
     pub one-more : (first′ : Point) (corners′ : List ℤ) → m .byte ≡ 44 → first′ ≡ firstOf count first p → m .at < length text → corners′ ≡ put (2 * (n + count)) (p .x ∷ p .y ∷ []) corners → Round text at n corners₀ corners′ first′ (count + 1) (m .at + 1)
     unfolding numbersOf
@@ -111,7 +111,7 @@ module _ (text : List ℕ) (at n : ℕ) (corners₀ corners : List ℤ) (first :
           means = λ multi done rings.
               g .means multi done rings
               ∙ q .means multi (record { done = done; rings = rings; ring = g .points })
-              ∙ mark-leads text end m k (AfterY multi (placeOf p)) (record { done = done; rings = rings; ring = g .points }) 43 (WantX multi) (Corner (placeOf p)) (after-rests multi (placeOf p)) c (comma multi (placeOf p) .0) (comma multi (placeOf p) .1) refl
+              ∙ byte-leads text end m k (AfterY multi (placeOf p)) (record { done = done; rings = rings; ring = g .points }) 43 (WantX multi) (Corner (placeOf p)) (after-rests multi (placeOf p)) c (comma multi (placeOf p) .0) (comma multi (placeOf p) .1) refl
               ∙ ap (λ o. readFrom text (m .at + 1) (WantX multi) (record { done = done; rings = rings; ring = g .points ++ (o ∷ []) })) (point-back p);
           held = s ∙ ap (put (2 * (n + count)) (p .x ∷ p .y ∷ [])) (g .held)
               ∙ ap (λ i. put i (p .x ∷ p .y ∷ []) (put (2 * n) (numbersOf (g .points)) corners₀)) (let t = numbers-twice (g .points) in let i : 2 * (n + count) ≡ 2 * n + length (numbersOf (g .points)) = omega arith in i)
@@ -137,7 +137,7 @@ module _ (text : List ℕ) (at n : ℕ) (corners₀ corners : List ℤ) (first :
           means = λ multi done rings.
               g .means multi done rings
               ∙ q .means multi (record { done = done; rings = rings; ring = g .points })
-              ∙ mark-leads text end m k (AfterY multi (placeOf p)) (record { done = done; rings = rings; ring = g .points }) 40 (AfterRing multi) (RingEnds (placeOf p)) (after-rests multi (placeOf p)) c (bracket multi (placeOf p) .0) (bracket multi (placeOf p) .1) refl
+              ∙ byte-leads text end m k (AfterY multi (placeOf p)) (record { done = done; rings = rings; ring = g .points }) 40 (AfterRing multi) (RingEnds (placeOf p)) (after-rests multi (placeOf p)) c (bracket multi (placeOf p) .0) (bracket multi (placeOf p) .1) refl
               ∙ ap (λ o. readFrom text (m .at + 1) (AfterRing multi) (soFar done (rings ++ ((g .points ++ (o ∷ [])) ∷ [])))) (point-back p);
           counted = is;
           corners-put = g .held ∙ ap₂ (λ i ring. put (2 * i) (numbersOf ring) corners₀) same (sym dropped);
@@ -165,9 +165,9 @@ not-open : (multi : Bool) (b : ℕ) → (b ≡ 32 → ⊥) → (b ≡ 40 → ⊥
 unfolding nextMode
 not-open multi b s o = rw (ne-eqb b 32 s, ne-eqb b 40 o) refl
 
-module _ (text : List ℕ) (at : ℕ) (m : Mark) (k : MarkRead text at m) where
+module _ (text : List ℕ) (at : ℕ) (m : NextByte) (k : NextRead text at m) where
   pub open-off : (m .byte ≡ 40 → ⊥) → (multi : Bool) (done : List Polygon) (rings : Polygon) → readFrom text at (WantRing multi) (soFar done rings) ≡ Breaks (m .at)
-  open-off o multi done rings = mark-refused text at m k (WantRing multi) (soFar done rings) (want-rests multi) refl (λ s. not-open multi (m .byte) s o)
+  open-off o multi done rings = byte-refused text at m k (WantRing multi) (soFar done rings) (want-rests multi) refl (λ s. not-open multi (m .byte) s o)
 
   pub opened : (e : Extent) (corners corners′ : List ℤ) (lengths lengths′ : List ℕ) (r : Scan) → m .byte ≡ 40 → RingScanned text (m .at + 1) WantX e corners corners′ lengths lengths′ r → RingScanned text at WantRing e corners corners′ lengths lengths′ r
   opened e corners corners′ lengths lengths′ (Read e′ end) o g =
@@ -185,5 +185,5 @@ module _ (text : List ℕ) (at : ℕ) (m : Mark) (k : MarkRead text at m) where
       }
     where
       first : (multi : Bool) (done : List Polygon) (rings : Polygon) → readFrom text at (WantRing multi) (soFar done rings) ≡ readFrom text (m .at + 1) (WantX multi) (soFar done rings)
-      first multi done rings = mark-leads text at m k (WantRing multi) (soFar done rings) 39 (WantX multi) Nothing (want-rests multi) o (opens multi .0) (opens multi .1) refl
-  opened e corners corners′ lengths lengths′ (Off place) o g = λ multi done rings. mark-leads text at m k (WantRing multi) (soFar done rings) 39 (WantX multi) Nothing (want-rests multi) o (opens multi .0) (opens multi .1) refl ∙ g multi done rings
+      first multi done rings = byte-leads text at m k (WantRing multi) (soFar done rings) 39 (WantX multi) Nothing (want-rests multi) o (opens multi .0) (opens multi .1) refl
+  opened e corners corners′ lengths lengths′ (Off place) o g = λ multi done rings. byte-leads text at m k (WantRing multi) (soFar done rings) 39 (WantX multi) Nothing (want-rests multi) o (opens multi .0) (opens multi .1) refl ∙ g multi done rings

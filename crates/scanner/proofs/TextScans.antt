@@ -8,12 +8,12 @@ use native.Mathlib.Omega.{arith}
 use lib.IntN.{ℤ}
 use lib.ListN.{length, getD}
 use borrow.Author.Tests.{ne-eqb}
-use Rattle.grammar.specs.declared.Mark.{Mark}
+use Rattle.grammar.specs.declared.NextByte.{NextByte}
 use Rattle.grammar.specs.Modes.{Mode, Start, Broken, Word, Spaced, EmptyText, WantRing, WantMember, Finished, Nothing, wordOf, opening, afterWord, nextMode, eventOf}
 use Rattle.grammar.specs.Spellings.{Spells, Breaks}
 use Rattle.grammar.specs.Scans.{So-far, isBroken, mayEnd, readFrom}
-use Rattle.grammar.specs.Tokens.{Resting, MarkRead}
-use Rattle.grammar.proofs.Steps.{leads, leaves, stops-early, stops-whole, space-skipped, mark-inside}
+use Rattle.grammar.specs.Tokens.{Resting, NextRead}
+use Rattle.grammar.proofs.Steps.{leads, leaves, stops-early, stops-whole, space-skipped, byte-inside}
 use Rattle.scanner.specs.declared.Extent.{Extent}
 use Rattle.scanner.specs.declared.Scan.{Scan}
 use Rattle.scanner.specs.declared.Scan.the-variants.{Read, Off}
@@ -32,7 +32,7 @@ finished-other : (b : ℕ) → (b ≡ 32 → ⊥) → nextMode Finished b ≡ Br
 unfolding nextMode
 finished-other b s = rw (ne-eqb b 32 s) refl
 
-module _ (text : List ℕ) (end : ℕ) (m : Mark) (k : MarkRead text end m) where
+module _ (text : List ℕ) (end : ℕ) (m : NextByte) (k : NextRead text end m) where
   pub end-off : m .at < length text → (f : So-far) → readFrom text end Finished f ≡ Breaks (m .at)
   end-off h f = k .skipped .same Finished f finished-rests ∙ leaves text (m .at) Finished f h (finished-other (getD text (m .at) 0) (k .skipped .stops h))
 
@@ -146,7 +146,7 @@ opens false = (refl, refl)
 early : (multi : Bool) (at : ℕ) → mayEnd (Word multi at) ≡ false
 early multi at = refl
 
-module _ (text : List ℕ) (at : ℕ) (multi : Bool) (e : at ≡ length (wordOf multi)) (m : Mark) (k : MarkRead text at m) (f : So-far) where
+module _ (text : List ℕ) (at : ℕ) (multi : Bool) (e : at ≡ length (wordOf multi)) (m : NextByte) (k : NextRead text at m) (f : So-far) where
   next-is : (b : ℕ) → nextMode (Word multi at) b ≡ afterWord multi b
   next-is b = ap (λ i. nextMode (Word multi i) b) e ∙ word-end multi b .0
 
@@ -169,7 +169,7 @@ module _ (text : List ℕ) (at : ℕ) (multi : Bool) (e : at ≡ length (wordOf 
   bracket-opens o = go (decLt at (m .at))
     where
       inside : m .at < length text
-      inside = mark-inside text at m k 39 o
+      inside = byte-inside text at m k 39 o
 
       byte : getD text (m .at) 0 ≡ 40
       byte = sym (k .byte) ∙ o
@@ -191,7 +191,7 @@ module _ (text : List ℕ) (at : ℕ) (multi : Bool) (e : at ≡ length (wordOf 
       go (no h) (no i) = ap (λ j. readFrom text j (Word multi at) f) (sym (same-place h)) ∙ stops-early text (m .at) (Word multi at) f (omega arith) (early multi at)
 
   pub empty-begins : at < m .at → m .byte ≡ 69 → readFrom text at (Word multi at) f ≡ readFrom text (m .at + 1) (EmptyText 1) f
-  empty-begins h z = spaced h ∙ leads text (m .at) (Spaced multi) f (EmptyText 1) Nothing (mark-inside text at m k 68 z) (ap (nextMode (Spaced multi)) (sym (k .byte) ∙ z) ∙ spaced-empty multi) (spaced-silent multi (getD text (m .at) 0)) refl
+  empty-begins h z = spaced h ∙ leads text (m .at) (Spaced multi) f (EmptyText 1) Nothing (byte-inside text at m k 68 z) (ap (nextMode (Spaced multi)) (sym (k .byte) ∙ z) ∙ spaced-empty multi) (spaced-silent multi (getD text (m .at) 0)) refl
 
 -- ---- the first word
 

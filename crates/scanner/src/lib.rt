@@ -22,7 +22,7 @@ pub struct Extent {
 pub enum Scan {
     /// The plan with this part, and the place behind it.
     Read(Extent, usize),
-    /// 21: the place up to which no text of the grammar begins so.
+    /// 21: the place of the first byte up to which no text of the grammar begins so, or the text's length.
     Off(usize),
 }
 

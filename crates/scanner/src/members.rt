@@ -9,7 +9,7 @@ use crate::Scan;
 use crate::no_extent;
 use crate::polygons::polygon;
 use crate::words::matched;
-use grammar::next_mark;
+use grammar::next_byte;
 
 // The member that is wanted at a place of a text.
 fn member(
@@ -23,7 +23,7 @@ fn member(
     requires { ⌜ (length (now text) ≤ 65536) × (at ≤ length (now text)) × Counted extent at ⌝ }
     ensures { λ r. ⌜ MemberScanned (now (text .entry)) at extent (now (corners .entry)) (now (corners .exit)) (now (lengths .entry)) (now (lengths .exit)) (now (counts .entry)) (now (counts .exit)) r ⌝ }
 {
-    let first = next_mark(text, at);
+    let first = next_byte(text, at);
     if first.byte == b'(' {
         return polygon(text, first.at + 1, corners, lengths, counts, extent);
     }
@@ -54,7 +54,7 @@ pub(crate) fn members(
         match member(text, place, corners, lengths, counts, so_far) {
             Scan::Off(broken) => return Scan::Off(broken),
             Scan::Read(more, end) => {
-                let next = next_mark(text, end);
+                let next = next_byte(text, end);
                 if next.byte == b')' {
                     return Scan::Read(more, next.at + 1);
                 }

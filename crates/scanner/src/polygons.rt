@@ -8,7 +8,7 @@ use crate::Extent;
 use crate::Scan;
 use crate::rings::ring_at;
 use crate::tables::store;
-use grammar::next_mark;
+use grammar::next_byte;
 
 // The plan with a polygon more.
 fn with_polygon(extent: Extent) -> Extent
@@ -41,7 +41,7 @@ pub(crate) fn polygon(
         match ring_at(text, place, corners, lengths, so_far) {
             Scan::Off(broken) => return Scan::Off(broken),
             Scan::Read(more, end) => {
-                let next = next_mark(text, end);
+                let next = next_byte(text, end);
                 if next.byte == b')' {
                     store(counts, extent.polygons, more.rings - extent.rings);
                     return Scan::Read(with_polygon(more), next.at + 1);

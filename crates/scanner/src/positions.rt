@@ -11,7 +11,7 @@ use grammar::numbers::number;
 pub enum Position {
     /// A position, and the place behind it.
     At(Point, usize),
-    /// 21: the place up to which no text of the grammar begins so.
+    /// 21: the place of the first byte up to which no text of the grammar begins so, or the text's length.
     Off(usize),
 }
 

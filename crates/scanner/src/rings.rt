@@ -13,7 +13,7 @@ use crate::positions::read_position;
 use crate::tables::store;
 use crate::tables::store_corner;
 use geom::Point;
-use grammar::next_mark;
+use grammar::next_byte;
 
 // Whether two positions are the same.
 fn same_point(p: Point, q: Point) -> bool
@@ -68,7 +68,7 @@ fn ring(text: &[u8], at: usize, corners: &mut [i64], lengths: &mut [usize], exte
         match read_position(text, place) {
             Position::Off(broken) => return Scan::Off(broken),
             Position::At(p, end) => {
-                let next = next_mark(text, end);
+                let next = next_byte(text, end);
                 first = first_of(count, first, p);
                 if next.byte == b')' {
                     let closed = closes(count, first, p);
@@ -98,7 +98,7 @@ pub(crate) fn ring_at(
     requires { ⌜ (length (now text) ≤ 65536) × (at ≤ length (now text)) × Counted extent at ⌝ }
     ensures { λ r. ⌜ RingScanned (now (text .entry)) at WantRing extent (now (corners .entry)) (now (corners .exit)) (now (lengths .entry)) (now (lengths .exit)) r ⌝ }
 {
-    let open = next_mark(text, at);
+    let open = next_byte(text, at);
     if open.byte != b'(' {
         return Scan::Off(open.at);
     }

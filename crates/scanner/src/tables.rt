@@ -6,7 +6,7 @@ ghost use lib.ListN.{set};
 ghost use Rattle.scanner.specs.Puts.{put};
 use geom::Point;
 
-/// A number at place k of a table, if it has one.
+/// Stores a number at place k of a table, if it has one.
 pub(crate) fn store(table: &mut [usize], k: usize, value: usize)
     ensures { λ _. ⌜ now (table .exit) ≡ set (now (table .entry)) k value ⌝ }
 {
@@ -15,7 +15,7 @@ pub(crate) fn store(table: &mut [usize], k: usize, value: usize)
     }
 }
 
-// A coordinate at place k of a table, if it has one.
+// Stores a coordinate at place k of a table, if it has one.
 fn store_number(table: &mut [i64], k: usize, value: i64)
     ensures { λ _. ⌜ now (table .exit) ≡ set (now (table .entry)) k value ⌝ }
 {
@@ -24,7 +24,7 @@ fn store_number(table: &mut [i64], k: usize, value: i64)
     }
 }
 
-/// Corner n of a coordinate table, as far as it reaches.
+/// Stores corner n in a coordinate table, as far as it reaches.
 pub(crate) fn store_corner(table: &mut [i64], n: usize, p: Point)
     requires { ⌜ n ≤ 65536 ⌝ }
     ensures { λ _. ⌜ now (table .exit) ≡ put (2 * n) (p .x ∷ p .y ∷ []) (now (table .entry)) ⌝ }

@@ -4,16 +4,16 @@ ghost use mathlib.Core.Bool.{true, false};
 ghost use Prim.Native.Nat.{_≤_};
 ghost use lib.ListN.{length};
 ghost use Rattle.grammar.specs.Modes.{Start, Word, EmptyText};
-ghost use Rattle.grammar.specs.Tokens.{MarkRead};
+ghost use Rattle.grammar.specs.Tokens.{NextRead};
 ghost use Rattle.scanner.specs.Scanned.{TextScanned, EmptyScanned, WithoutBrackets, Ended, Within};
 use crate::Scan;
 use crate::members::members;
 use crate::no_extent;
 use crate::polygons::polygon;
 use crate::words::matched;
-use grammar::Mark;
+use grammar::NextByte;
 use grammar::byte_at;
-use grammar::next_mark;
+use grammar::next_byte;
 
 // A text from behind its last bracket on: spaces alone may stand there.
 fn to_end(text: &[u8], scan: Scan) -> Scan
@@ -23,7 +23,7 @@ fn to_end(text: &[u8], scan: Scan) -> Scan
     match scan {
         Scan::Off(broken) => Scan::Off(broken),
         Scan::Read(extent, end) => {
-            let next = next_mark(text, end);
+            let next = next_byte(text, end);
             if next.at < text.len() {
                 return Scan::Off(next.at);
             }
@@ -49,8 +49,8 @@ fn empty_text(text: &[u8], at: usize) -> Scan
 }
 
 // A text from behind its first word on, where this byte comes next and is no bracket: EMPTY, with a space before it.
-fn without_brackets(text: &[u8], at: usize, next: Mark) -> Scan
-    requires { ⌜ (length (now text) ≤ 65536) × MarkRead (now text) at next × (next .byte ≡ 40 → ⊥) ⌝ }
+fn without_brackets(text: &[u8], at: usize, next: NextByte) -> Scan
+    requires { ⌜ (length (now text) ≤ 65536) × NextRead (now text) at next × (next .byte ≡ 40 → ⊥) ⌝ }
     ensures { λ r. ⌜ WithoutBrackets (now (text .entry)) at r ⌝ }
 {
     if next.byte != b'E' {
@@ -76,7 +76,7 @@ fn polygon_text(
     if n < 6 {
         return Scan::Off(1 + n);
     }
-    let next = next_mark(text, 7);
+    let next = next_byte(text, 7);
     if next.byte == b'(' {
         return to_end(
             text,
@@ -100,15 +100,15 @@ fn multipolygon_text(
     if n < 11 {
         return Scan::Off(1 + n);
     }
-    let next = next_mark(text, 12);
+    let next = next_byte(text, 12);
     if next.byte == b'(' {
         return to_end(text, members(text, next.at + 1, corners, lengths, counts));
     }
     without_brackets(text, 12, next)
 }
 
-/// What a text spells: how much of a plan, which is stored as far as the tables reach, or where it leaves the grammar. Off the grammar, what is
-/// stored is what it spells up to there.
+/// What a text spells: how much of a plan, which is stored as far as the tables reach, or where it leaves the grammar. Off the grammar, what the
+/// tables then hold is left open: a caller that may write nothing lends tables of no length.
 pub fn scan(text: &[u8], corners: &mut [i64], lengths: &mut [usize], counts: &mut [usize]) -> Scan
     requires { ⌜ length (now text) ≤ 65536 ⌝ }
     ensures { λ r. ⌜ TextScanned (now (text .entry)) 0 Start (now (corners .entry)) (now (corners .exit)) (now (lengths .entry)) (now (lengths .exit)) (now (counts .entry)) (now (counts .exit)) r ⌝ }

@@ -20,7 +20,7 @@ abbrev pub readingNumber : Reading → ℕ
 readingNumber (Read size) = 0
 readingNumber (Refused refusal) = refusalNumber refusal
 
--- 2's line, 11's table, and 0 with any other answer; where a plan was read the answer holds its size
+-- 2's line, 11's table, 21's place, and 0 with any other answer; where a plan was read the answer holds its size
 abbrev pub readingDetail : Reading → ℕ
 readingDetail (Read size) = 0
 readingDetail (Refused refusal) = refusalDetail refusal

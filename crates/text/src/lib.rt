@@ -19,7 +19,7 @@ pub const MAX_TEXT: usize = 65536;
 pub enum Reading {
     /// The plan is in the tables, and this is its size.
     Read(Size),
-    /// 1, 2 with its line, or 11 with its table.
+    /// 1, 2 with its line, or 11 with its table; of Well-Known Text 21 with its place and 22 in the place of 2.
     Refused(Refusal),
 }
 

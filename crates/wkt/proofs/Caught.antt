@@ -131,7 +131,7 @@ pub in-order : (output′ : List ℕ) (r : Writing) → WktWritten (record { kin
 unfolding writing planVerdict tooMany uneven drawable anyOf total wktOf polygonsOf ringsOf partsOf cornersOf wktText inBrackets after closed decimal digits digitsWithin
 in-order output′ r g = let e = g .answer in g .output-written ∙ ap (λ a. outputAfter a (77 ∷ 85 ∷ 76 ∷ 84 ∷ 73 ∷ 80 ∷ 79 ∷ 76 ∷ 89 ∷ 71 ∷ 79 ∷ 78 ∷ 32 ∷ 40 ∷ 40 ∷ 40 ∷ 49 ∷ 32 ∷ 49 ∷ 44 ∷ 32 ∷ 49 ∷ 32 ∷ 49 ∷ 41 ∷ 44 ∷ 32 ∷ 40 ∷ 50 ∷ 32 ∷ 50 ∷ 44 ∷ 32 ∷ 50 ∷ 32 ∷ 50 ∷ 41 ∷ 41 ∷ 41 ∷ []) (7 ∷ 7 ∷ 7 ∷ 7 ∷ 7 ∷ 7 ∷ 7 ∷ 7 ∷ 7 ∷ 7 ∷ 7 ∷ 7 ∷ 7 ∷ 7 ∷ 7 ∷ 7 ∷ 7 ∷ 7 ∷ 7 ∷ 7 ∷ 7 ∷ 7 ∷ 7 ∷ 7 ∷ 7 ∷ 7 ∷ 7 ∷ 7 ∷ 7 ∷ 7 ∷ 7 ∷ 7 ∷ 7 ∷ 7 ∷ 7 ∷ 7 ∷ 7 ∷ 7 ∷ 7 ∷ [])) e
 
--- 11 before 1: a text that is too long is, whatever the output
+-- 11 before 1: a text that is too long gets 1, whatever the output is
 pub long-first : (plan : Plan) (output output′ : List ℕ) (r : Writing) → planVerdict plan ≡ Accepted → drawable plan ≡ true → 65536 < length (wktOf plan) → WktWritten plan output output′ r → r ≡ Writing.the-variants.Refused TextTooLong
 unfolding writing
 long-first plan output output′ r v d h g =

@@ -2,13 +2,14 @@
 use mathlib.Core.Path.{_≡_, refl, sym, ap, subst, _∙_}
 use mathlib.Core.Bool.{Bool, true, false, not, _&&_, _||_, true≢false}
 use mathlib.Core.List.{List, [], _∷_, _++_}
-use Prim.Native.Nat.{ℕ, _+_, _-_, _*_, _%_, _≤_}
+use Prim.Native.Nat.{ℕ, _+_, _-_, _*_, _/_, _%_, _≤_}
 use native.Mathlib.Omega.{arith}
 use lib.Dec.{eqb, eqb·suc-zero}
 use lib.IntN.{ℤ, pos, negsuc}
 use lib.ListN.{length, length-append}
 use borrow.Author.Tests.{eq-eqb, ne-eqb}
 use Rattle.fields.specs.Decimals.{decimal}
+use Rattle.fields.proofs.Bytes.{both}
 use Rattle.fields.proofs.Written.{digits-some}
 use Rattle.rules.specs.declared.Verdict.the-variants.{Accepted}
 use Rattle.rules.specs.Lists.{anyOf, total, isOdd}
@@ -19,14 +20,21 @@ use Rattle.grammar.specs.Texts.{dropLast}
 use Rattle.grammar.specs.Spellings.{Spells, Means}
 use Rattle.grammar.specs.Scans.{spelling}
 use Rattle.grammar.specs.Plans.{endsAt, isClosed, allClosed, everyClosed, coordinates, ringLengths, lengths, counts, planSpelt}
+use Rattle.lines.specs.declared.Size.{Size}
+use Rattle.text.specs.declared.Reading.the-variants.{Read}
 use Rattle.grammar.proofs.Means.{means}
 use Rattle.grammar.proofs.Tables.{total-append, coordinates-twice, lengths-counted}
+use Rattle.wkt.specs.Readings.{planIn, WktRead}
+use Rattle.wkt.proofs.Readings.{Given, given}
 
--- what a text of the largest size can hold: 16,380 corners, 6,552 rings, 5,460 polygons
-pub record Largest (spelt : List Polygon) : Type 0 where
-  pub corners : total (lengths spelt) ≤ 16380
-  pub rings : length (lengths spelt) ≤ 6552
-  pub polygons : length (counts spelt) ≤ 5460
+-- what a text of n bytes can hold, and one of the largest size: 16,380 corners, 6,552 rings, 5,460 polygons
+pub record Largest (n corners rings polygons : ℕ) : Type 0 where
+  pub four-a-corner : 4 * corners ≤ n
+  pub ten-a-ring : 10 * rings ≤ n
+  pub twelve-a-polygon : 12 * polygons ≤ n
+  pub most-corners : corners ≤ 16380
+  pub most-rings : rings ≤ 6552
+  pub most-polygons : polygons ≤ 5460
 
 -- ---- the bytes of each part
 
@@ -147,10 +155,6 @@ few-polygons ((ring ∷ rings) ∷ polygons) h =
     let l = length-append (ringLengths rings) (lengths polygons) in
     omega arith
 
-both : (a b : Bool) → (a && b) ≡ true → (a ≡ true) × (b ≡ true)
-both true b e = (refl, e)
-both false b e = absurd (true≢false (sym e))
-
 closed-corner : (ring : Ring) → isClosed ring ≡ true → 1 ≤ length (dropLast ring)
 unfolding isClosed endsAt dropLast
 closed-corner [] h = absurd (true≢false (sym h))
@@ -188,14 +192,14 @@ rings-counted (rings ∷ polygons) =
 
 -- ---- 4 and 3
 
-largest-of : (n : ℕ) (polygons : List Polygon) → n ≤ 65536 → Spelt n polygons → everyClosed polygons ≡ true → Largest polygons
+largest-of : (n : ℕ) (polygons : List Polygon) → n ≤ 65536 → Spelt n polygons → everyClosed polygons ≡ true → Largest n (total (lengths polygons)) (length (lengths polygons)) (length (counts polygons))
 unfolding lengths counts total
-largest-of n [] h g c = record { corners = omega arith; rings = omega arith; polygons = omega arith }
+largest-of n [] h g c = record { four-a-corner = omega arith; ten-a-ring = omega arith; twelve-a-polygon = omega arith; most-corners = omega arith; most-rings = omega arith; most-polygons = omega arith }
 largest-of n (rings ∷ polygons) h g c =
     let b = g .bytes in
     let p = few-polygons (rings ∷ polygons) (g .full-ones) in
     let r = few-rings (rings ∷ polygons) c in
-    record { corners = omega arith; rings = omega arith; polygons = omega arith }
+    record { four-a-corner = omega arith; ten-a-ring = omega arith; twelve-a-polygon = omega arith; most-corners = omega arith; most-rings = omega arith; most-polygons = omega arith }
 
 fits-together : (polygons : List Polygon) → anyOf isZero (counts polygons) ≡ false → uneven (planSpelt polygons) ≡ false
 unfolding uneven
@@ -210,11 +214,31 @@ module _ (text : List ℕ) (polygons : List Polygon) (small : length text ≤ 65
   of-text : Spelt (length text) polygons
   of-text = spelt polygons (subst (Means text) e (means text))
 
-  pub few : Largest polygons
+  few : Largest (length text) (total (lengths polygons)) (length (lengths polygons)) (length (counts polygons))
   few = largest-of (length text) polygons small of-text closed
 
-  pub accepted : planVerdict (planSpelt polygons) ≡ Accepted
+  accepted : planVerdict (planSpelt polygons) ≡ Accepted
   accepted =
       let l = few in
       let t = coordinates-twice polygons in
-      accepted-else (planSpelt polygons) (few-enough (planSpelt polygons) (record { corners = omega (arith, l .corners); rings = omega (arith, l .rings); polygons = λ list. omega (arith, l .polygons) })) (fits-together polygons (of-text .full-ones))
+      accepted-else (planSpelt polygons) (few-enough (planSpelt polygons) (record { corners = omega (arith, l .most-corners); rings = omega (arith, l .most-rings); polygons = λ list. omega (arith, l .most-polygons) })) (fits-together polygons (of-text .full-ones))
+
+-- ---- a plan that `read_wkt` has read
+
+module _ (text : List ℕ) (c c′ : List ℤ) (l l′ n n′ : List ℕ) (size : Size) (g : WktRead text c c′ l l′ n n′ (Read size)) where
+  was : Given text (length c) (length l) (length n) size
+  was = given text (length c) (length l) (length n) size (g .answer)
+
+  -- it is no larger than its text can say
+  pub read-few : Largest (length text) (size .corners) (size .rings) (size .polygons)
+  read-few =
+      let t = coordinates-twice (was .polygons) in
+      let corners : total (lengths (was .polygons)) ≡ size .corners = (let h : total (lengths (was .polygons)) ≡ length (coordinates (was .polygons)) / 2 = omega arith in h) ∙ ap (λ s. s .corners) (sym (was .counted)) in
+      let rings : length (lengths (was .polygons)) ≡ size .rings = ap (λ s. s .rings) (sym (was .counted)) in
+      let polygons : length (counts (was .polygons)) ≡ size .polygons = ap (λ s. s .polygons) (sym (was .counted)) in
+      let f = few text (was .polygons) (was .small) (was .is) (was .closed) in
+      subst (λ k. Largest (length text) k (size .rings) (size .polygons)) corners (subst (λ k. Largest (length text) (total (lengths (was .polygons))) k (size .polygons)) rings (subst (λ k. Largest (length text) (total (lengths (was .polygons))) (length (lengths (was .polygons))) k) polygons f))
+
+  -- and gets neither 4 nor 3
+  pub read-accepted : planVerdict (planIn (spelling text)) ≡ Accepted
+  read-accepted = ap (λ s. planVerdict (planIn s)) (was .is) ∙ accepted text (was .polygons) (was .small) (was .is) (was .closed)

@@ -170,7 +170,7 @@ module _ (kind : Kind) (coordinates : List ℤ) (lengths counts : List ℕ) (out
   due-here : Due (planGiven kind coordinates lengths counts) (length output) bytes
   due-here = due-for plan (length output) bytes (a .answer)
 
-  list-text : wktOf (listOf coordinates lengths counts) ≡ wktOf plan
+  pub list-text : wktOf (listOf coordinates lengths counts) ≡ wktOf plan
   list-text = ap (λ k. wktOf (planGiven k coordinates lengths counts)) (sym (due-here .list))
 
   pub answered-drawn : Drawn coordinates lengths counts

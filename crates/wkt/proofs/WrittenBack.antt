@@ -17,8 +17,8 @@ use Rattle.grammar.specs.Plans.{everyClosed, planSpelt}
 use Rattle.writer.specs.Drawn.{listOf, Drawn, closedPolygons}
 use Rattle.writer.proofs.Back.{spelt-back, closed-back, plan-back}
 use Rattle.wkt.specs.declared.write.Writing.the-variants.{Written}
-use Rattle.wkt.specs.Writings.{WktWritten}
-use Rattle.wkt.proofs.Writings.{planGiven, Due, due-for, answered-drawn}
+use Rattle.wkt.specs.Writings.{writing, Answered, WktWritten}
+use Rattle.wkt.proofs.Writings.{planGiven, Due, due-for, list-text, answered-drawn}
 
 pub record Back (plan : Plan) (bytes : ℕ) (output : List ℕ) : Type 0 where
   pub polygons : List Polygon
@@ -36,21 +36,21 @@ module _ (kind : Kind) (coordinates : List ℤ) (lengths counts output output′
   due : Due plan (length output) bytes
   due = due-for plan (length output) bytes (w .answer)
 
+  answered : Answered coordinates (writing (planGiven kind coordinates lengths counts) (length output)) (Written bytes)
+  answered = record { answer = w .answer; fits = w .fits }
+
   drawn : Drawn coordinates lengths counts
-  drawn = answered-drawn kind coordinates lengths counts output bytes (record { answer = w .answer; fits = w .fits })
+  drawn = answered-drawn kind coordinates lengths counts output bytes answered
 
   begins : take bytes output′ ≡ wktOf plan
   begins = ap (λ o. take bytes o) (w .output-written) ∙ ap (λ n. take n (overwritten 0 (wktOf plan) output)) (due .exact) ∙ take-append-seam (wktOf plan) (drop (0 + length (wktOf plan)) output)
-
-  list-text : wktOf (listOf coordinates lengths counts) ≡ wktOf plan
-  list-text = ap (λ k. wktOf (planGiven k coordinates lengths counts)) (sym (due .list))
 
   pub written-back : Back (planGiven kind coordinates lengths counts) bytes output′
   written-back =
       record {
         polygons = closedPolygons coordinates lengths counts;
         short = subst (λ s. length s ≤ 65536) (sym begins) (due .short);
-        spelt = ap spelling (begins ∙ sym list-text) ∙ spelt-back coordinates lengths counts drawn (w .fits);
+        spelt = ap spelling (begins ∙ sym (list-text kind coordinates lengths counts output bytes answered)) ∙ spelt-back coordinates lengths counts drawn (w .fits);
         are-closed = closed-back coordinates lengths counts drawn (w .fits);
         same = plan-back coordinates lengths counts drawn (w .fits) ∙ ap (λ k. planGiven k coordinates lengths counts) (sym (due .list));
       }

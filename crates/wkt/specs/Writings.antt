@@ -8,7 +8,7 @@ use lib.Dec.{eqb, ltb}
 use lib.IntN.{ℤ}
 use lib.ListN.{length}
 use Rattle.fields.specs.Written.{overwritten}
-use Rattle.rules.specs.declared.Refusal.the-variants.{TextTooLong, TableTooShort, Unclosed}
+use Rattle.rules.specs.declared.Refusal.the-variants.{TextTooLong, TableTooShort, Unsound, Unclosed}
 use Rattle.rules.specs.declared.Table.the-variants.{Output}
 use Rattle.rules.specs.declared.Verdict.{Verdict}
 use Rattle.rules.specs.declared.Verdict.the-variants as Verdict
@@ -39,6 +39,11 @@ writingOf (Verdict.Refused refusal) plan room = Refused refusal
 -- "writing tests 4 and 3 first", into an output of this length
 unfoldable pub writing : Plan → ℕ → Writing
 writing plan room = writingOf (planVerdict plan) plan room
+
+-- where a number names no kind: 4 and 3 come first, as a tree has them, then 15
+abbrev pub unnamedWriting : Verdict → Writing
+unnamedWriting Verdict.Accepted = Refused Unsound
+unnamedWriting (Verdict.Refused refusal) = Refused refusal
 
 -- ---- the same in numbers
 

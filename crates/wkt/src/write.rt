@@ -1,11 +1,12 @@
 // A list plan written as Well-Known Text, and what that answers (document 02, R-1).
 ghost use mathlib.Core.Path.{_≡_};
 ghost use lib.ListN.{length};
+ghost use Rattle.rules.specs.declared.Kind.the-variants.{Tree};
 ghost use Rattle.rules.specs.declared.Verdict.the-variants.{Accepted};
 ghost use Rattle.rules.specs.Plans.{planVerdict};
 ghost use Rattle.grammar.specs.Texts.{wktOf};
 ghost use Rattle.writer.specs.Drawn.{listOf, Drawn};
-ghost use Rattle.wkt.specs.Writings.{withOutput, drawnWriting, writing, Answered, WktWritten};
+ghost use Rattle.wkt.specs.Writings.{withOutput, drawnWriting, writing, unnamedWriting, Answered, WktWritten};
 use plans::has_zero;
 use plans::judge;
 use rules::Kind;
@@ -95,5 +96,15 @@ pub fn write_wkt(
             Writing::Written(length)
         }
         Writing::Refused(refusal) => Writing::Refused(refusal),
+    }
+}
+
+/// What writing answers where the number names no kind: 4 and 3 as a tree has them, else 15. Nothing is written.
+pub fn unnamed_writing(coordinates: &[i64], lengths: &[usize], counts: &[usize]) -> Writing
+    ensures { λ r. ⌜ r ≡ unnamedWriting (planVerdict (record { kind = Tree; coordinates = now (coordinates .entry); lengths = now (lengths .entry); counts = now (counts .entry) })) ⌝ }
+{
+    match judge(Kind::Tree, coordinates, lengths, counts) {
+        Verdict::Accepted => Writing::Refused(Refusal::Unsound),
+        Verdict::Refused(early) => Writing::Refused(early),
     }
 }

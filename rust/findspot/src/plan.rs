@@ -114,7 +114,7 @@ impl Plan {
     }
 
     /// The plan of tables as they are: all corners, the number of corners of each ring and, for a list, the number of rings of each polygon.
-    /// Tables that do not fit together are refused when the plan is prepared. A tree's ring counts are not looked at.
+    /// Tables that do not fit together are refused when the plan is prepared or written. A tree's ring counts are not looked at.
     pub fn from_tables(
         kind: Kind,
         corners: Vec<Point>,
@@ -195,7 +195,8 @@ impl Plan {
     /// # Ok::<(), findspot::Refusal>(())
     /// ```
     ///
-    /// The writer is the library's, which is proved.
+    /// The writer is the library's, which is proved. Each call lends it [`MAX_TEXT`](crate::MAX_TEXT) bytes, whatever comes of it; the answer keeps
+    /// no more than the text has.
     ///
     /// # Errors
     ///
@@ -203,7 +204,12 @@ impl Plan {
     /// where the plan is a tree or has an empty ring; [`Refusal::TextTooLong`] (1) where the text would have more than
     /// [`MAX_TEXT`](crate::MAX_TEXT) bytes.
     pub fn to_wkt(&self) -> Result<String, Refusal> {
-        wkt::write(self)
+        wkt::write(
+            self.kind,
+            &self.corners,
+            &self.ring_lengths,
+            &self.ring_counts,
+        )
     }
 
     /// The plan's kind.
@@ -240,6 +246,25 @@ impl Plan {
             let before = self.corners.len();
             self.corners.extend(ring.into_iter().map(Into::into));
             self.ring_lengths.push(self.corners.len() - before);
+        }
+    }
+}
+
+#[cfg(test)]
+mod tests {
+    use super::Plan;
+    use crate::MAX_TEXT;
+
+    #[test]
+    fn a_plan_that_was_read_keeps_no_more_room_than_it_fills() {
+        let text = b"POLYGON((0 0,0 0))";
+        let padded = [text, &b" ".repeat(MAX_TEXT)[text.len()..]].concat();
+        let own = b"plan\nouter\nat\t0\t0\n";
+        for plan in [Plan::from_wkt(&padded), Plan::from_text(own)] {
+            let plan = plan.expect("it is read");
+            assert_eq!(plan.corners.capacity(), 1);
+            assert_eq!(plan.ring_lengths.capacity(), 1);
+            assert_eq!(plan.ring_counts.capacity(), 1);
         }
     }
 }

@@ -5,7 +5,7 @@ use crate::location::Location;
 use crate::plan::{Kind, Plan};
 use crate::point::Point;
 use crate::refusal::Refusal;
-use crate::{MAX_CORNERS, MAX_POLYGONS, MAX_RINGS, MAX_UNDO};
+use crate::{MAX_CORNERS, MAX_POLYGONS, MAX_RINGS, MAX_UNDO, wkt};
 use std::fmt;
 
 /// A closed box: all points between two corners.
@@ -203,15 +203,12 @@ impl Prepared {
 
     /// The plan with its corners as they now stand, to be prepared anew.
     pub fn plan(&self) -> Plan {
-        Plan::from_tables(
-            self.kind(),
-            self.tables.corners.clone(),
-            lengths_of(&self.tables.rings).collect(),
-            lengths_of(&self.tables.polygons).collect(),
-        )
+        let (lengths, counts) = self.lengths_and_counts();
+        Plan::from_tables(self.kind(), self.tables.corners.clone(), lengths, counts)
     }
 
-    /// The plan with its corners as they now stand, as Well-Known Text: [`Plan::to_wkt`] of [`Prepared::plan`].
+    /// The plan with its corners as they now stand, as Well-Known Text: [`Plan::to_wkt`] of [`Prepared::plan`], without a copy of the corners. It
+    /// takes 8 bytes a ring and polygon more than that call does.
     ///
     /// ```
     /// # use findspot::{Plan, Point, Prepared};
@@ -227,7 +224,8 @@ impl Prepared {
     /// In this order: [`Refusal::Unclosed`] (22) where the plan is a tree or has an empty ring; [`Refusal::TextTooLong`] (1) where the text would
     /// have more than [`MAX_TEXT`](crate::MAX_TEXT) bytes.
     pub fn to_wkt(&self) -> Result<String, Refusal> {
-        self.plan().to_wkt()
+        let (lengths, counts) = self.lengths_and_counts();
+        wkt::write(self.kind(), self.corners(), &lengths, &counts)
     }
 
     /// The number of nodes of the hierarchy of boxes; 0 where the plan is out of range.
@@ -245,6 +243,13 @@ impl Prepared {
             min: Point::new(left, bottom),
             max: Point::new(right, top),
         })
+    }
+
+    /// The number of corners of each ring and, for a list, of rings of each polygon, as a plan has them.
+    fn lengths_and_counts(&self) -> (Vec<usize>, Vec<usize>) {
+        let lengths = lengths_of(&self.tables.rings).collect();
+        let counts = lengths_of(&self.tables.polygons).collect();
+        (lengths, counts)
     }
 }
 

@@ -6,6 +6,9 @@ use std::borrow::Cow;
 use std::error::Error;
 use std::fmt;
 
+/// What to do about refusal 1, on reading and on writing.
+const SHORTEN: &str = "split the plan or, where it was to be read from text, hand it over as rings";
+
 /// What to do about refusal 2.
 const MEND_LINE: &str = "mend it: `plan` comes first, alone or with `list` or `tree`, then `outer`, `hole` or `node` for a ring and `at` \
     with x and y for a corner, with single tabs between fields and a line feed after each line";
@@ -55,8 +58,8 @@ pub enum Refusal {
     /// 21: the place, counted from 0, at which a text leaves the grammar of Well-Known Text: the bytes before it begin a text of the grammar, and
     /// with the byte there they begin none. It is the text's length where the text only ends early.
     OffGrammar(usize),
-    /// 22: a ring of a Well-Known Text whose ends differ or that has one position; or a plan to be written as such that is a tree or has an empty
-    /// ring, for which there are no closed rings.
+    /// 22: a ring of a Well-Known Text whose ends differ or that has one position; or a plan to be written as Well-Known Text that is a tree or has
+    /// an empty ring, for which there are no closed rings.
     Unclosed,
 }
 
@@ -100,6 +103,9 @@ impl Refusal {
 
     /// The message, with what is wrong in the line of the refused text that refusal 2 names, or at the place that refusal 21 names. Any other
     /// refusal says what it always does.
+    ///
+    /// For refusal 21 the library is asked which bytes may stand at the place: up to 96 readings of the text up to there, so the cost is linear in
+    /// the place.
     ///
     /// ```
     /// # use findspot::Plan;
@@ -160,7 +166,7 @@ impl Refusal {
     /// What to do about it.
     fn remedy(self) -> Cow<'static, str> {
         match self {
-            Refusal::TextTooLong => "hand a larger plan over as rings, or split it".into(),
+            Refusal::TextTooLong => SHORTEN.into(),
             Refusal::BadLine(_) => MEND_LINE.into(),
             Refusal::Uneven => MEND_COUNTS.into(),
             Refusal::TooMany => format!(

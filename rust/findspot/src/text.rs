@@ -62,9 +62,14 @@ pub fn line(text: &[u8], number: usize) -> &[u8] {
     &text[span.offset..span.offset + span.length]
 }
 
-/// The refusal of a text that holds no plan. A text is judged before a table is looked at, so none is lent.
+/// What reading a text answers where no table is lent. A text is judged before a table is looked at, so its own refusals come as ever.
+pub(crate) fn judge_with(reader: Reader, text: &[u8]) -> Reading {
+    reader(text, &mut [], &mut [], &mut [])
+}
+
+/// The refusal of a text that holds no plan.
 fn refusal_of(text: &[u8]) -> Refusal {
-    let reading = library::read_plan(text, &mut [], &mut [], &mut []);
+    let reading = judge_with(library::read_plan, text);
     Refusal::of_number(reading.refusal, reading.detail)
 }
 
@@ -73,8 +78,8 @@ pub(crate) fn read(text: &[u8]) -> Result<Plan, Refusal> {
     read_with(library::read_plan, &FEWEST, text)
 }
 
-/// The plan that a text holds, read into tables that have room for what so many bytes can hold. A text above the ceiling is refused before they
-/// are looked at, however long it is.
+/// The plan that a text holds, read into tables that have room for what so many bytes can hold; the plan keeps no more room than it fills. A text
+/// above the ceiling is refused before they are looked at, however long it is.
 pub(crate) fn read_with(reader: Reader, fewest: &Fewest, text: &[u8]) -> Result<Plan, Refusal> {
     let bytes = text.len().min(MAX_TEXT);
     let mut corners = vec![Point::default(); bytes / fewest.corner];
@@ -84,18 +89,27 @@ pub(crate) fn read_with(reader: Reader, fewest: &Fewest, text: &[u8]) -> Result<
     if reading.refusal != 0 {
         return Err(Refusal::of_number(reading.refusal, reading.detail));
     }
-    corners.truncate(reading.corners);
-    lengths.truncate(reading.rings);
-    counts.truncate(reading.polygons);
     let kind = Kind::of_number(reading.kind);
-    Ok(Plan::from_tables(kind, corners, lengths, counts))
+    Ok(Plan::from_tables(
+        kind,
+        cut(corners, reading.corners),
+        cut(lengths, reading.rings),
+        cut(counts, reading.polygons),
+    ))
+}
+
+/// The beginning of a list, without room for the rest.
+pub(crate) fn cut<T>(mut list: Vec<T>, length: usize) -> Vec<T> {
+    list.truncate(length);
+    list.shrink_to_fit();
+    list
 }
 
 /// Whether a text's header opens a list: the library reads the header alone, so that what a header means is said nowhere else.
 fn is_list(text: &[u8]) -> bool {
     let header = library::line(text, 1);
     let end = text.len().min(header.length + 1);
-    let reading = library::read_plan(&text[..end], &mut [], &mut [], &mut []);
+    let reading = judge_with(library::read_plan, &text[..end]);
     reading.refusal == 0 && Kind::of_number(reading.kind) == Kind::List
 }
 

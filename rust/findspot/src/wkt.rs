@@ -1,6 +1,7 @@
 //! Plans as Well-Known Text: the library reads and writes them, and alone knows the grammar.
 
-use crate::plan::Plan;
+use crate::plan::{Kind, Plan};
+use crate::point::Point;
 use crate::refusal::Refusal;
 use crate::text::{self, Fewest};
 use crate::{MAX_TEXT, library};
@@ -17,22 +18,20 @@ pub(crate) fn read(text: &[u8]) -> Result<Plan, Refusal> {
     text::read_with(library::read_wkt, &FEWEST, text)
 }
 
-/// A list plan as Well-Known Text.
-pub(crate) fn write(plan: &Plan) -> Result<String, Refusal> {
+/// The plan of these tables as Well-Known Text, for which it has to be a list.
+pub(crate) fn write(
+    kind: Kind,
+    corners: &[Point],
+    lengths: &[usize],
+    counts: &[usize],
+) -> Result<String, Refusal> {
     let mut output = vec![0; MAX_TEXT];
-    let writing = library::write_wkt(
-        plan.kind().number(),
-        plan.corners(),
-        plan.ring_lengths(),
-        plan.ring_counts(),
-        &mut output,
-    );
+    let writing = library::write_wkt(kind.number(), corners, lengths, counts, &mut output);
     if writing.refusal != 0 {
         return Err(Refusal::of_number(writing.refusal, writing.table));
     }
-    output.truncate(writing.length);
-    output.shrink_to_fit();
-    Ok(String::from_utf8(output).expect("Well-Known Text is ASCII"))
+    let text = text::cut(output, writing.length);
+    Ok(String::from_utf8(text).expect("Well-Known Text is ASCII"))
 }
 
 /// What is wrong at the place at which a text leaves the grammar: what stands there, and what may.
@@ -54,7 +53,11 @@ fn due(begun: &[u8]) -> Vec<String> {
     if begun.len() >= MAX_TEXT {
         return Vec::new();
     }
-    let fits = |&byte: &u8| is_begun(&[begun, &[byte]].concat());
+    let mut longer = [begun, b" "].concat();
+    let fits = |&byte: &u8| {
+        longer[begun.len()] = byte;
+        is_begun(&longer)
+    };
     let (digits, others): (Vec<u8>, Vec<u8>) =
         (b' '..=b'~').filter(fits).partition(u8::is_ascii_digit);
     let mut due: Vec<String> = others.into_iter().map(named).collect();
@@ -73,12 +76,18 @@ fn due(begun: &[u8]) -> Vec<String> {
 
 /// Whether a text of the grammar begins so.
 fn is_begun(text: &[u8]) -> bool {
-    !matches!(read(text), Err(Refusal::OffGrammar(place)) if place < text.len())
+    leaves_at(text).is_none_or(|place| place == text.len())
 }
 
 /// Whether a text is one of the grammar.
 fn is_whole(text: &[u8]) -> bool {
-    !matches!(read(text), Err(Refusal::OffGrammar(_)))
+    leaves_at(text).is_none()
+}
+
+/// The place at which a text leaves the grammar, or none where it is one of the grammar.
+fn leaves_at(text: &[u8]) -> Option<usize> {
+    let reading = text::judge_with(library::read_wkt, text);
+    (reading.refusal == 21).then_some(reading.detail)
 }
 
 /// A byte as it is called in a message.

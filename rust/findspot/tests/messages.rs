@@ -57,7 +57,8 @@ fn of_texts() -> Vec<Said> {
         Plan::from_wkt(&long).map(|_| ()),
         written.map(|_| ()),
     ];
-    let mut all = said(too_long, 1, &["text", &bytes], &["rings", "split"]);
+    let remedy = ["split the plan", "to be read", "as rings"];
+    let mut all = said(too_long, 1, &["text", &bytes], &remedy);
     let words = [
         "mend",
         "`plan`",

@@ -382,19 +382,37 @@ fn a_written_plan_read_again_is_the_plan() {
     assert!(counts.iter().all(|&count| count > 10), "{counts:?}");
 }
 
+/// The plan with other corners.
+fn with_corners(plan: &Plan, corners: Vec<Point>) -> Plan {
+    let lengths = plan.ring_lengths().to_vec();
+    Plan::from_tables(plan.kind(), corners, lengths, plan.ring_counts().to_vec())
+}
+
 #[test]
-fn after_moves_a_prepared_plan_is_written_as_its_plan_is() {
+fn after_moves_a_prepared_plan_is_written_with_its_corners_moved() {
+    let (mut moved, mut refused) = (0, 0);
     for seed in 0..PLANS / 4 {
         let random = &mut Random::new(seed);
         let plan = filled(&plan(random));
+        let mut corners = plan.corners().to_vec();
         let mut prepared = Prepared::with_undo(&plan, 8).expect("generated plans are accepted");
-        for _ in 0..prepared.corners().len().min(8) {
-            let corner = random.below(prepared.corners().len());
-            let place = new_place(random, prepared.corners());
+        for _ in 0..corners.len().min(8) {
+            let corner = random.below(corners.len());
+            let place = new_place(random, &corners);
             prepared.move_corner(corner, place).expect("there is room");
+            corners[corner] = place;
         }
-        assert_eq!(prepared.to_wkt(), writing_due(&prepared.plan()));
+        let due = with_corners(&plan, corners);
+        assert_eq!(prepared.plan(), due);
+        let written = prepared.to_wkt();
+        assert_eq!(written, writing_due(&due));
+        match written {
+            Ok(text) if text != text_due(&plan) => moved += 1,
+            Ok(_) => {}
+            Err(_) => refused += 1,
+        }
     }
+    assert!(moved > 150 && refused > 50, "{moved}, {refused}");
 }
 
 /// A text with its spaces drawn anew: any number round brackets and commas, one or more elsewhere.
@@ -411,16 +429,20 @@ fn spaced(random: &mut Random, text: &str) -> String {
 
 #[test]
 fn spaces_round_brackets_and_commas_change_nothing() {
+    let mut compared = 0;
     for seed in 0..PLANS {
         let random = &mut Random::new(seed);
         let plan = filled(&plan(random));
-        if let Ok(text) = plan.to_wkt() {
-            let text = spaced(random, &text);
-            if text.len() <= MAX_TEXT {
-                assert_eq!(read(&text), Ok(plan));
-            }
+        let Ok(text) = plan.to_wkt() else {
+            continue;
+        };
+        let spaced = spaced(random, &text);
+        if spaced.len() <= MAX_TEXT && spaced != text {
+            assert_eq!(read(&spaced), Ok(plan));
+            compared += 1;
         }
     }
+    assert!(compared > PLANS / 2, "{compared}");
 }
 
 #[test]

@@ -4,7 +4,7 @@ use Prim.Native.Nat.{_-_}
 use native.Mathlib.Omega.{arith}
 use borrow.Author.Needs.{needs}
 use lib.ListN.{length, set, length-set}
-use Rattle.grammar.proofs.Steps.{mark-inside}
+use Rattle.grammar.proofs.Steps.{byte-inside}
 use Rattle.grammar.specs.Modes.{WantRing}
 use Rattle.scanner.specs.Scanned.{RingScanned}
 use Rattle.scanner.proofs.RingScans.{fewer}
@@ -42,8 +42,8 @@ returns c = ring-off (c .before .before .before .before .before .before .before 
 enum-known-more : tie.Need-enum-known-more Inv-loop μ-loop
 enum-known-more c = search needs
 
-next-mark-requires : tie.Need-next-mark-requires Inv-loop μ-loop
-next-mark-requires c κs = let q = (subst (RingScanned (c .before .before .before .before .before .before .before .before .before .before .before .before .before .before .args .text .now) (c .before .before .before .before .before .before .before .before .before .before .loop .place) WantRing (c .before .before .before .before .before .before .before .before .before .before .loop .so-far) (c .before .before .before .before .before .before .before .before .before .before .loop .corners) (c .before .before .before .before .before .before .ring-at .last .1 .1 .0) (c .before .before .before .before .before .before .before .before .before .before .loop .lengths) (c .before .before .before .before .before .before .ring-at .last .1 .1 .1 .0)) (c .before .more .given .1) (c .before .before .before .before .before .before .ring-at .ensures)) in q .inside
+next-byte-requires : tie.Need-next-byte-requires Inv-loop μ-loop
+next-byte-requires c κs = let q = (subst (RingScanned (c .before .before .before .before .before .before .before .before .before .before .before .before .before .before .args .text .now) (c .before .before .before .before .before .before .before .before .before .before .loop .place) WantRing (c .before .before .before .before .before .before .before .before .before .before .loop .so-far) (c .before .before .before .before .before .before .before .before .before .before .loop .corners) (c .before .before .before .before .before .before .ring-at .last .1 .1 .0) (c .before .before .before .before .before .before .before .before .before .before .loop .lengths) (c .before .before .before .before .before .before .ring-at .last .1 .1 .1 .0)) (c .before .more .given .1) (c .before .before .before .before .before .before .ring-at .ensures)) in q .inside
 
 sub-store : tie.Need-sub-store Inv-loop μ-loop
 sub-store c = let n = rings-now (c .before .before .before .before .before .before .before .before .before .before .before .before .before .before .before .before .before .before .before .before .args .text .now) (c .before .before .before .before .before .before .before .before .before .before .before .before .before .before .before .before .before .before .before .before .args .at) (c .before .before .before .before .before .before .before .before .before .before .before .before .before .before .before .before .before .before .before .before .args .extent) (c .before .before .before .before .before .before .before .before .before .before .before .before .before .before .before .before .before .before .before .before .args .corners .now) (c .before .before .before .before .before .before .before .before .before .before .before .before .before .before .before .before .loop .corners) (c .before .before .before .before .before .before .before .before .before .before .before .before .before .before .before .before .before .before .before .before .args .lengths .now) (c .before .before .before .before .before .before .before .before .before .before .before .before .before .before .before .before .loop .lengths) (c .before .before .before .before .before .before .before .before .before .before .before .before .before .before .before .before .loop .so-far) (c .before .before .before .before .before .before .before .before .before .before .before .before .before .before .before .before .loop .place) (c .before .before .before .before .before .before .before .before .before .before .before .before .before .before .before .before .loop .inv .0) (c .before .before .before .before .before .before .before .before .before .before .before .before .ring-at .last .1 .1 .0) (c .before .before .before .before .before .before .before .before .before .before .before .before .ring-at .last .1 .1 .1 .0) (c .before .before .before .before .before .before .before .more .given .0 .0) (c .before .before .before .before .before .before .before .more .given .0 .1 .0) (subst (RingScanned (c .before .before .before .before .before .before .before .before .before .before .before .before .before .before .before .before .before .before .before .before .args .text .now) (c .before .before .before .before .before .before .before .before .before .before .before .before .before .before .before .before .loop .place) WantRing (c .before .before .before .before .before .before .before .before .before .before .before .before .before .before .before .before .loop .so-far) (c .before .before .before .before .before .before .before .before .before .before .before .before .before .before .before .before .loop .corners) (c .before .before .before .before .before .before .before .before .before .before .before .before .ring-at .last .1 .1 .0) (c .before .before .before .before .before .before .before .before .before .before .before .before .before .before .before .before .loop .lengths) (c .before .before .before .before .before .before .before .before .before .before .before .before .ring-at .last .1 .1 .1 .0)) (c .before .before .before .before .before .before .before .more .given .1) (c .before .before .before .before .before .before .before .before .before .before .before .before .ring-at .ensures)) in omega (arith, n)
@@ -55,7 +55,7 @@ with-polygon-requires : tie.Need-with-polygon-requires Inv-loop μ-loop
 with-polygon-requires c κs = let q = (subst (RingScanned (c .before .before .before .before .before .before .before .before .before .before .before .before .before .before .before .before .before .before .before .before .before .before .before .args .text .now) (c .before .before .before .before .before .before .before .before .before .before .before .before .before .before .before .before .before .before .before .loop .place) WantRing (c .before .before .before .before .before .before .before .before .before .before .before .before .before .before .before .before .before .before .before .loop .so-far) (c .before .before .before .before .before .before .before .before .before .before .before .before .before .before .before .before .before .before .before .loop .corners) (c .before .before .before .before .before .before .before .before .before .before .before .before .before .before .before .ring-at .last .1 .1 .0) (c .before .before .before .before .before .before .before .before .before .before .before .before .before .before .before .before .before .before .before .loop .lengths) (c .before .before .before .before .before .before .before .before .before .before .before .before .before .before .before .ring-at .last .1 .1 .1 .0)) (c .before .before .before .before .before .before .before .before .before .before .more .given .1) (c .before .before .before .before .before .before .before .before .before .before .before .before .before .before .before .ring-at .ensures)) in let i = q .inside in let l = c .before .before .before .before .before .before .before .before .before .before .before .before .before .before .before .before .before .before .before .before .before .before .before .pre .0 in fewer (c .before .before .before .before .before .before .before .before .before .before .more .given .0 .0) (c .before .before .before .before .before .before .before .before .before .before .more .given .0 .1 .0) 65536 (omega (arith, i, l)) (q .few)
 
 add-t24 : tie.Need-add-t24 Inv-loop μ-loop
-add-t24 c = let h = (mark-inside (c .before .before .before .before .before .before .before .before .before .before .before .before .before .before .before .before .before .before .before .before .before .before .before .before .before .args .text .now) (c .before .before .before .before .before .before .before .before .before .before .before .before .more .given .0 .1 .0) (c .before .before .before .before .before .before .before .before .before .before .next-mark .result) (c .before .before .before .before .before .before .before .before .before .before .next-mark .ensures) 40 (c .before .before .before .before .before .before .before .before .if1 .taken)) in let l = c .before .before .before .before .before .before .before .before .before .before .before .before .before .before .before .before .before .before .before .before .before .before .before .before .before .pre .0 in omega (arith, h, l)
+add-t24 c = let h = (byte-inside (c .before .before .before .before .before .before .before .before .before .before .before .before .before .before .before .before .before .before .before .before .before .before .before .before .before .args .text .now) (c .before .before .before .before .before .before .before .before .before .before .before .before .more .given .0 .1 .0) (c .before .before .before .before .before .before .before .before .before .before .next-byte .result) (c .before .before .before .before .before .before .before .before .before .before .next-byte .ensures) 40 (c .before .before .before .before .before .before .before .before .if1 .taken)) in let l = c .before .before .before .before .before .before .before .before .before .before .before .before .before .before .before .before .before .before .before .before .before .before .before .before .before .pre .0 in omega (arith, h, l)
 
 same-length-4 : tie.Need-same-length-4 Inv-loop μ-loop
 same-length-4 c = c .before .before .before .before .before .before .before .before .before .before .before .before .before .before .before .before .before .ring-at .kept .1 .1 .0 ∙ corners-length (c .before .before .before .before .before .before .before .before .before .before .before .before .before .before .before .before .before .before .before .before .before .before .before .before .before .args .text .now) (c .before .before .before .before .before .before .before .before .before .before .before .before .before .before .before .before .before .before .before .before .before .before .before .before .before .args .at) (c .before .before .before .before .before .before .before .before .before .before .before .before .before .before .before .before .before .before .before .before .before .before .before .before .before .args .extent) (c .before .before .before .before .before .before .before .before .before .before .before .before .before .before .before .before .before .before .before .before .before .before .before .before .before .args .corners .now) (c .before .before .before .before .before .before .before .before .before .before .before .before .before .before .before .before .before .before .before .before .before .loop .corners) (c .before .before .before .before .before .before .before .before .before .before .before .before .before .before .before .before .before .before .before .before .before .before .before .before .before .args .lengths .now) (c .before .before .before .before .before .before .before .before .before .before .before .before .before .before .before .before .before .before .before .before .before .loop .lengths) (c .before .before .before .before .before .before .before .before .before .before .before .before .before .before .before .before .before .before .before .before .before .loop .so-far) (c .before .before .before .before .before .before .before .before .before .before .before .before .before .before .before .before .before .before .before .before .before .loop .place) (c .before .before .before .before .before .before .before .before .before .before .before .before .before .before .before .before .before .before .before .before .before .loop .inv .0)
@@ -67,7 +67,7 @@ same-length-6 : tie.Need-same-length-6 Inv-loop μ-loop
 same-length-6 c = ap length (c .before .before .before .before .store .ensures) ∙ length-set (c .before .before .before .before .before .before .before .before .before .before .before .before .before .before .before .before .before .before .before .before .before .loop .counts) (c .before .before .before .before .before .before .before .before .before .before .before .before .before .before .before .before .before .before .before .before .before .before .before .before .before .args .extent .polygons) _ ∙ ap length (c .before .before .before .before .before .before .before .before .before .before .before .before .before .before .before .before .before .before .before .before .before .loop .inv .1)
 
 returns-2 : tie.Need-returns-2 Inv-loop μ-loop
-returns-2 c = polygon-whole (c .before .before .before .before .before .before .before .before .before .before .before .before .before .before .before .before .before .before .before .before .before .before .before .before .before .args .text .now) (c .before .before .before .before .before .before .before .before .before .before .before .before .before .before .before .before .before .before .before .before .before .before .before .before .before .args .at) (c .before .before .before .before .before .before .before .before .before .before .before .before .before .before .before .before .before .before .before .before .before .before .before .before .before .args .extent) (c .before .before .before .before .before .before .before .before .before .before .before .before .before .before .before .before .before .before .before .before .before .before .before .before .before .args .corners .now) (c .before .before .before .before .before .before .before .before .before .before .before .before .before .before .before .before .before .before .before .before .before .loop .corners) (c .before .before .before .before .before .before .before .before .before .before .before .before .before .before .before .before .before .before .before .before .before .before .before .before .before .args .lengths .now) (c .before .before .before .before .before .before .before .before .before .before .before .before .before .before .before .before .before .before .before .before .before .loop .lengths) (c .before .before .before .before .before .before .before .before .before .before .before .before .before .before .before .before .before .before .before .before .before .loop .so-far) (c .before .before .before .before .before .before .before .before .before .before .before .before .before .before .before .before .before .before .before .before .before .loop .place) (c .before .before .before .before .before .before .before .before .before .before .before .before .before .before .before .before .before .before .before .before .before .loop .inv .0) (c .before .before .before .before .before .before .before .before .before .before .before .before .before .before .before .before .before .ring-at .last .1 .1 .0) (c .before .before .before .before .before .before .before .before .before .before .before .before .before .before .before .before .before .ring-at .last .1 .1 .1 .0) (c .before .before .before .before .before .before .before .before .before .before .before .before .more .given .0 .0) (c .before .before .before .before .before .before .before .before .before .before .before .before .more .given .0 .1 .0) (subst (RingScanned (c .before .before .before .before .before .before .before .before .before .before .before .before .before .before .before .before .before .before .before .before .before .before .before .before .before .args .text .now) (c .before .before .before .before .before .before .before .before .before .before .before .before .before .before .before .before .before .before .before .before .before .loop .place) WantRing (c .before .before .before .before .before .before .before .before .before .before .before .before .before .before .before .before .before .before .before .before .before .loop .so-far) (c .before .before .before .before .before .before .before .before .before .before .before .before .before .before .before .before .before .before .before .before .before .loop .corners) (c .before .before .before .before .before .before .before .before .before .before .before .before .before .before .before .before .before .ring-at .last .1 .1 .0) (c .before .before .before .before .before .before .before .before .before .before .before .before .before .before .before .before .before .before .before .before .before .loop .lengths) (c .before .before .before .before .before .before .before .before .before .before .before .before .before .before .before .before .before .ring-at .last .1 .1 .1 .0)) (c .before .before .before .before .before .before .before .before .before .before .before .before .more .given .1) (c .before .before .before .before .before .before .before .before .before .before .before .before .before .before .before .before .before .ring-at .ensures)) (c .before .before .before .before .before .before .before .before .before .before .next-mark .result) (c .before .before .before .before .before .before .before .before .before .before .next-mark .ensures) (c .before .with-polygon .result) (c .before .before .before .before .before .before .before .before .before .before .before .before .before .before .before .before .before .before .before .before .before .before .before .before .before .args .counts .now) (c .before .before .before .before .store .last .0) (c .before .before .before .before .before .before .before .before .if1 .taken) (mark-inside (c .before .before .before .before .before .before .before .before .before .before .before .before .before .before .before .before .before .before .before .before .before .before .before .before .before .args .text .now) (c .before .before .before .before .before .before .before .before .before .before .before .before .more .given .0 .1 .0) (c .before .before .before .before .before .before .before .before .before .before .next-mark .result) (c .before .before .before .before .before .before .before .before .before .before .next-mark .ensures) 40 (c .before .before .before .before .before .before .before .before .if1 .taken)) (c .before .with-polygon .ensures) (c .before .before .before .before .store .ensures ∙ ap (λ t. set t (c .before .before .before .before .before .before .before .before .before .before .before .before .before .before .before .before .before .before .before .before .before .before .before .before .before .args .extent .polygons) (c .before .before .before .before .before .before .before .before .before .before .before .before .more .given .0 .0 .rings - c .before .before .before .before .before .before .before .before .before .before .before .before .before .before .before .before .before .before .before .before .before .before .before .before .before .args .extent .rings)) (c .before .before .before .before .before .before .before .before .before .before .before .before .before .before .before .before .before .before .before .before .before .loop .inv .1))
+returns-2 c = polygon-whole (c .before .before .before .before .before .before .before .before .before .before .before .before .before .before .before .before .before .before .before .before .before .before .before .before .before .args .text .now) (c .before .before .before .before .before .before .before .before .before .before .before .before .before .before .before .before .before .before .before .before .before .before .before .before .before .args .at) (c .before .before .before .before .before .before .before .before .before .before .before .before .before .before .before .before .before .before .before .before .before .before .before .before .before .args .extent) (c .before .before .before .before .before .before .before .before .before .before .before .before .before .before .before .before .before .before .before .before .before .before .before .before .before .args .corners .now) (c .before .before .before .before .before .before .before .before .before .before .before .before .before .before .before .before .before .before .before .before .before .loop .corners) (c .before .before .before .before .before .before .before .before .before .before .before .before .before .before .before .before .before .before .before .before .before .before .before .before .before .args .lengths .now) (c .before .before .before .before .before .before .before .before .before .before .before .before .before .before .before .before .before .before .before .before .before .loop .lengths) (c .before .before .before .before .before .before .before .before .before .before .before .before .before .before .before .before .before .before .before .before .before .loop .so-far) (c .before .before .before .before .before .before .before .before .before .before .before .before .before .before .before .before .before .before .before .before .before .loop .place) (c .before .before .before .before .before .before .before .before .before .before .before .before .before .before .before .before .before .before .before .before .before .loop .inv .0) (c .before .before .before .before .before .before .before .before .before .before .before .before .before .before .before .before .before .ring-at .last .1 .1 .0) (c .before .before .before .before .before .before .before .before .before .before .before .before .before .before .before .before .before .ring-at .last .1 .1 .1 .0) (c .before .before .before .before .before .before .before .before .before .before .before .before .more .given .0 .0) (c .before .before .before .before .before .before .before .before .before .before .before .before .more .given .0 .1 .0) (subst (RingScanned (c .before .before .before .before .before .before .before .before .before .before .before .before .before .before .before .before .before .before .before .before .before .before .before .before .before .args .text .now) (c .before .before .before .before .before .before .before .before .before .before .before .before .before .before .before .before .before .before .before .before .before .loop .place) WantRing (c .before .before .before .before .before .before .before .before .before .before .before .before .before .before .before .before .before .before .before .before .before .loop .so-far) (c .before .before .before .before .before .before .before .before .before .before .before .before .before .before .before .before .before .before .before .before .before .loop .corners) (c .before .before .before .before .before .before .before .before .before .before .before .before .before .before .before .before .before .ring-at .last .1 .1 .0) (c .before .before .before .before .before .before .before .before .before .before .before .before .before .before .before .before .before .before .before .before .before .loop .lengths) (c .before .before .before .before .before .before .before .before .before .before .before .before .before .before .before .before .before .ring-at .last .1 .1 .1 .0)) (c .before .before .before .before .before .before .before .before .before .before .before .before .more .given .1) (c .before .before .before .before .before .before .before .before .before .before .before .before .before .before .before .before .before .ring-at .ensures)) (c .before .before .before .before .before .before .before .before .before .before .next-byte .result) (c .before .before .before .before .before .before .before .before .before .before .next-byte .ensures) (c .before .with-polygon .result) (c .before .before .before .before .before .before .before .before .before .before .before .before .before .before .before .before .before .before .before .before .before .before .before .before .before .args .counts .now) (c .before .before .before .before .store .last .0) (c .before .before .before .before .before .before .before .before .if1 .taken) (byte-inside (c .before .before .before .before .before .before .before .before .before .before .before .before .before .before .before .before .before .before .before .before .before .before .before .before .before .args .text .now) (c .before .before .before .before .before .before .before .before .before .before .before .before .more .given .0 .1 .0) (c .before .before .before .before .before .before .before .before .before .before .next-byte .result) (c .before .before .before .before .before .before .before .before .before .before .next-byte .ensures) 40 (c .before .before .before .before .before .before .before .before .if1 .taken)) (c .before .with-polygon .ensures) (c .before .before .before .before .store .ensures ∙ ap (λ t. set t (c .before .before .before .before .before .before .before .before .before .before .before .before .before .before .before .before .before .before .before .before .before .before .before .before .before .args .extent .polygons) (c .before .before .before .before .before .before .before .before .before .before .before .before .more .given .0 .0 .rings - c .before .before .before .before .before .before .before .before .before .before .before .before .before .before .before .before .before .before .before .before .before .before .before .before .before .args .extent .rings)) (c .before .before .before .before .before .before .before .before .before .before .before .before .before .before .before .before .before .before .before .before .before .loop .inv .1))
 
 same-length-7 : tie.Need-same-length-7 Inv-loop μ-loop
 same-length-7 c = c .before .before .before .before .before .before .before .before .before .before .before .ring-at .kept .1 .1 .0 ∙ corners-length (c .before .before .before .before .before .before .before .before .before .before .before .before .before .before .before .before .before .before .before .args .text .now) (c .before .before .before .before .before .before .before .before .before .before .before .before .before .before .before .before .before .before .before .args .at) (c .before .before .before .before .before .before .before .before .before .before .before .before .before .before .before .before .before .before .before .args .extent) (c .before .before .before .before .before .before .before .before .before .before .before .before .before .before .before .before .before .before .before .args .corners .now) (c .before .before .before .before .before .before .before .before .before .before .before .before .before .before .before .loop .corners) (c .before .before .before .before .before .before .before .before .before .before .before .before .before .before .before .before .before .before .before .args .lengths .now) (c .before .before .before .before .before .before .before .before .before .before .before .before .before .before .before .loop .lengths) (c .before .before .before .before .before .before .before .before .before .before .before .before .before .before .before .loop .so-far) (c .before .before .before .before .before .before .before .before .before .before .before .before .before .before .before .loop .place) (c .before .before .before .before .before .before .before .before .before .before .before .before .before .before .before .loop .inv .0)
@@ -79,16 +79,16 @@ same-length-9 : tie.Need-same-length-9 Inv-loop μ-loop
 same-length-9 c = ap length (c .before .before .before .before .before .before .before .before .before .before .before .before .before .before .before .loop .inv .1)
 
 returns-3 : tie.Need-returns-3 Inv-loop μ-loop
-returns-3 c = behind-off (c .before .before .before .before .before .before .before .before .before .before .before .before .before .before .before .before .before .before .before .args .text .now) (c .before .before .before .before .before .before .before .before .before .before .before .before .before .before .before .before .before .before .before .args .at) (c .before .before .before .before .before .before .before .before .before .before .before .before .before .before .before .before .before .before .before .args .extent) (c .before .before .before .before .before .before .before .before .before .before .before .before .before .before .before .before .before .before .before .args .corners .now) (c .before .before .before .before .before .before .before .before .before .before .before .before .before .before .before .loop .corners) (c .before .before .before .before .before .before .before .before .before .before .before .before .before .before .before .before .before .before .before .args .lengths .now) (c .before .before .before .before .before .before .before .before .before .before .before .before .before .before .before .loop .lengths) (c .before .before .before .before .before .before .before .before .before .before .before .before .before .before .before .loop .so-far) (c .before .before .before .before .before .before .before .before .before .before .before .before .before .before .before .loop .place) (c .before .before .before .before .before .before .before .before .before .before .before .before .before .before .before .loop .inv .0) (c .before .before .before .before .before .before .before .before .before .before .before .ring-at .last .1 .1 .0) (c .before .before .before .before .before .before .before .before .before .before .before .ring-at .last .1 .1 .1 .0) (c .before .before .before .before .before .before .more .given .0 .0) (c .before .before .before .before .before .before .more .given .0 .1 .0) (subst (RingScanned (c .before .before .before .before .before .before .before .before .before .before .before .before .before .before .before .before .before .before .before .args .text .now) (c .before .before .before .before .before .before .before .before .before .before .before .before .before .before .before .loop .place) WantRing (c .before .before .before .before .before .before .before .before .before .before .before .before .before .before .before .loop .so-far) (c .before .before .before .before .before .before .before .before .before .before .before .before .before .before .before .loop .corners) (c .before .before .before .before .before .before .before .before .before .before .before .ring-at .last .1 .1 .0) (c .before .before .before .before .before .before .before .before .before .before .before .before .before .before .before .loop .lengths) (c .before .before .before .before .before .before .before .before .before .before .before .ring-at .last .1 .1 .1 .0)) (c .before .before .before .before .before .before .more .given .1) (c .before .before .before .before .before .before .before .before .before .before .before .ring-at .ensures)) (c .before .before .before .before .next-mark .result) (c .before .before .before .before .next-mark .ensures) (c .if2 .taken) (c .before .before .if1 .left)
+returns-3 c = behind-off (c .before .before .before .before .before .before .before .before .before .before .before .before .before .before .before .before .before .before .before .args .text .now) (c .before .before .before .before .before .before .before .before .before .before .before .before .before .before .before .before .before .before .before .args .at) (c .before .before .before .before .before .before .before .before .before .before .before .before .before .before .before .before .before .before .before .args .extent) (c .before .before .before .before .before .before .before .before .before .before .before .before .before .before .before .before .before .before .before .args .corners .now) (c .before .before .before .before .before .before .before .before .before .before .before .before .before .before .before .loop .corners) (c .before .before .before .before .before .before .before .before .before .before .before .before .before .before .before .before .before .before .before .args .lengths .now) (c .before .before .before .before .before .before .before .before .before .before .before .before .before .before .before .loop .lengths) (c .before .before .before .before .before .before .before .before .before .before .before .before .before .before .before .loop .so-far) (c .before .before .before .before .before .before .before .before .before .before .before .before .before .before .before .loop .place) (c .before .before .before .before .before .before .before .before .before .before .before .before .before .before .before .loop .inv .0) (c .before .before .before .before .before .before .before .before .before .before .before .ring-at .last .1 .1 .0) (c .before .before .before .before .before .before .before .before .before .before .before .ring-at .last .1 .1 .1 .0) (c .before .before .before .before .before .before .more .given .0 .0) (c .before .before .before .before .before .before .more .given .0 .1 .0) (subst (RingScanned (c .before .before .before .before .before .before .before .before .before .before .before .before .before .before .before .before .before .before .before .args .text .now) (c .before .before .before .before .before .before .before .before .before .before .before .before .before .before .before .loop .place) WantRing (c .before .before .before .before .before .before .before .before .before .before .before .before .before .before .before .loop .so-far) (c .before .before .before .before .before .before .before .before .before .before .before .before .before .before .before .loop .corners) (c .before .before .before .before .before .before .before .before .before .before .before .ring-at .last .1 .1 .0) (c .before .before .before .before .before .before .before .before .before .before .before .before .before .before .before .loop .lengths) (c .before .before .before .before .before .before .before .before .before .before .before .ring-at .last .1 .1 .1 .0)) (c .before .before .before .before .before .before .more .given .1) (c .before .before .before .before .before .before .before .before .before .before .before .ring-at .ensures)) (c .before .before .before .before .next-byte .result) (c .before .before .before .before .next-byte .ensures) (c .if2 .taken) (c .before .before .if1 .left)
 
 add-place : tie.Need-add-place Inv-loop μ-loop
-add-place c = let h = (mark-inside (c .before .before .before .before .before .before .before .before .before .before .before .before .before .before .before .before .before .before .before .before .args .text .now) (c .before .before .before .before .before .before .before .more .given .0 .1 .0) (c .before .before .before .before .before .next-mark .result) (c .before .before .before .before .before .next-mark .ensures) 43 (c .before .if2 .left)) in let l = c .before .before .before .before .before .before .before .before .before .before .before .before .before .before .before .before .before .before .before .before .pre .0 in omega (arith, h, l)
+add-place c = let h = (byte-inside (c .before .before .before .before .before .before .before .before .before .before .before .before .before .before .before .before .before .before .before .before .args .text .now) (c .before .before .before .before .before .before .before .more .given .0 .1 .0) (c .before .before .before .before .before .next-byte .result) (c .before .before .before .before .before .next-byte .ensures) 43 (c .before .if2 .left)) in let l = c .before .before .before .before .before .before .before .before .before .before .before .before .before .before .before .before .before .before .before .before .pre .0 in omega (arith, h, l)
 
 loop-less : tie.Need-loop-less Inv-loop μ-loop
-loop-less c = let h = (mark-inside (c .before .before .before .before .before .before .before .before .before .before .before .before .before .before .before .before .before .before .before .before .args .text .now) (c .before .before .before .before .before .before .before .more .given .0 .1 .0) (c .before .before .before .before .before .next-mark .result) (c .before .before .before .before .before .next-mark .ensures) 43 (c .before .if2 .left)) in let q = (subst (RingScanned (c .before .before .before .before .before .before .before .before .before .before .before .before .before .before .before .before .before .before .before .before .args .text .now) (c .before .before .before .before .before .before .before .before .before .before .before .before .before .before .before .before .loop .place) WantRing (c .before .before .before .before .before .before .before .before .before .before .before .before .before .before .before .before .loop .so-far) (c .before .before .before .before .before .before .before .before .before .before .before .before .before .before .before .before .loop .corners) (c .before .before .before .before .before .before .before .before .before .before .before .before .ring-at .last .1 .1 .0) (c .before .before .before .before .before .before .before .before .before .before .before .before .before .before .before .before .loop .lengths) (c .before .before .before .before .before .before .before .before .before .before .before .before .ring-at .last .1 .1 .1 .0)) (c .before .before .before .before .before .before .before .more .given .1) (c .before .before .before .before .before .before .before .before .before .before .before .before .ring-at .ensures)) in let e = q .on in let o = c .before .before .before .before .before .next-mark .ensures .skipped .on in omega (arith, h, e, o)
+loop-less c = let h = (byte-inside (c .before .before .before .before .before .before .before .before .before .before .before .before .before .before .before .before .before .before .before .before .args .text .now) (c .before .before .before .before .before .before .before .more .given .0 .1 .0) (c .before .before .before .before .before .next-byte .result) (c .before .before .before .before .before .next-byte .ensures) 43 (c .before .if2 .left)) in let q = (subst (RingScanned (c .before .before .before .before .before .before .before .before .before .before .before .before .before .before .before .before .before .before .before .before .args .text .now) (c .before .before .before .before .before .before .before .before .before .before .before .before .before .before .before .before .loop .place) WantRing (c .before .before .before .before .before .before .before .before .before .before .before .before .before .before .before .before .loop .so-far) (c .before .before .before .before .before .before .before .before .before .before .before .before .before .before .before .before .loop .corners) (c .before .before .before .before .before .before .before .before .before .before .before .before .ring-at .last .1 .1 .0) (c .before .before .before .before .before .before .before .before .before .before .before .before .before .before .before .before .loop .lengths) (c .before .before .before .before .before .before .before .before .before .before .before .before .ring-at .last .1 .1 .1 .0)) (c .before .before .before .before .before .before .before .more .given .1) (c .before .before .before .before .before .before .before .before .before .before .before .before .ring-at .ensures)) in let e = q .on in let o = c .before .before .before .before .before .next-byte .ensures .skipped .on in omega (arith, h, e, o)
 
 loop-again : tie.Need-loop-again Inv-loop μ-loop
-loop-again c = (one-more (c .before .before .before .before .before .before .before .before .before .before .before .before .before .before .before .before .before .before .before .before .args .text .now) (c .before .before .before .before .before .before .before .before .before .before .before .before .before .before .before .before .before .before .before .before .args .at) (c .before .before .before .before .before .before .before .before .before .before .before .before .before .before .before .before .before .before .before .before .args .extent) (c .before .before .before .before .before .before .before .before .before .before .before .before .before .before .before .before .before .before .before .before .args .corners .now) (c .before .before .before .before .before .before .before .before .before .before .before .before .before .before .before .before .loop .corners) (c .before .before .before .before .before .before .before .before .before .before .before .before .before .before .before .before .before .before .before .before .args .lengths .now) (c .before .before .before .before .before .before .before .before .before .before .before .before .before .before .before .before .loop .lengths) (c .before .before .before .before .before .before .before .before .before .before .before .before .before .before .before .before .loop .so-far) (c .before .before .before .before .before .before .before .before .before .before .before .before .before .before .before .before .loop .place) (c .before .before .before .before .before .before .before .before .before .before .before .before .before .before .before .before .loop .inv .0) (c .before .before .before .before .before .before .before .before .before .before .before .before .ring-at .last .1 .1 .0) (c .before .before .before .before .before .before .before .before .before .before .before .before .ring-at .last .1 .1 .1 .0) (c .before .before .before .before .before .before .before .more .given .0 .0) (c .before .before .before .before .before .before .before .more .given .0 .1 .0) (subst (RingScanned (c .before .before .before .before .before .before .before .before .before .before .before .before .before .before .before .before .before .before .before .before .args .text .now) (c .before .before .before .before .before .before .before .before .before .before .before .before .before .before .before .before .loop .place) WantRing (c .before .before .before .before .before .before .before .before .before .before .before .before .before .before .before .before .loop .so-far) (c .before .before .before .before .before .before .before .before .before .before .before .before .before .before .before .before .loop .corners) (c .before .before .before .before .before .before .before .before .before .before .before .before .ring-at .last .1 .1 .0) (c .before .before .before .before .before .before .before .before .before .before .before .before .before .before .before .before .loop .lengths) (c .before .before .before .before .before .before .before .before .before .before .before .before .ring-at .last .1 .1 .1 .0)) (c .before .before .before .before .before .before .before .more .given .1) (c .before .before .before .before .before .before .before .before .before .before .before .before .ring-at .ensures)) (c .before .before .before .before .before .next-mark .result) (c .before .before .before .before .before .next-mark .ensures) (c .before .if2 .left) (mark-inside (c .before .before .before .before .before .before .before .before .before .before .before .before .before .before .before .before .before .before .before .before .args .text .now) (c .before .before .before .before .before .before .before .more .given .0 .1 .0) (c .before .before .before .before .before .next-mark .result) (c .before .before .before .before .before .next-mark .ensures) 43 (c .before .if2 .left)), c .before .before .before .before .before .before .before .before .before .before .before .before .before .before .before .before .loop .inv .1)
+loop-again c = (one-more (c .before .before .before .before .before .before .before .before .before .before .before .before .before .before .before .before .before .before .before .before .args .text .now) (c .before .before .before .before .before .before .before .before .before .before .before .before .before .before .before .before .before .before .before .before .args .at) (c .before .before .before .before .before .before .before .before .before .before .before .before .before .before .before .before .before .before .before .before .args .extent) (c .before .before .before .before .before .before .before .before .before .before .before .before .before .before .before .before .before .before .before .before .args .corners .now) (c .before .before .before .before .before .before .before .before .before .before .before .before .before .before .before .before .loop .corners) (c .before .before .before .before .before .before .before .before .before .before .before .before .before .before .before .before .before .before .before .before .args .lengths .now) (c .before .before .before .before .before .before .before .before .before .before .before .before .before .before .before .before .loop .lengths) (c .before .before .before .before .before .before .before .before .before .before .before .before .before .before .before .before .loop .so-far) (c .before .before .before .before .before .before .before .before .before .before .before .before .before .before .before .before .loop .place) (c .before .before .before .before .before .before .before .before .before .before .before .before .before .before .before .before .loop .inv .0) (c .before .before .before .before .before .before .before .before .before .before .before .before .ring-at .last .1 .1 .0) (c .before .before .before .before .before .before .before .before .before .before .before .before .ring-at .last .1 .1 .1 .0) (c .before .before .before .before .before .before .before .more .given .0 .0) (c .before .before .before .before .before .before .before .more .given .0 .1 .0) (subst (RingScanned (c .before .before .before .before .before .before .before .before .before .before .before .before .before .before .before .before .before .before .before .before .args .text .now) (c .before .before .before .before .before .before .before .before .before .before .before .before .before .before .before .before .loop .place) WantRing (c .before .before .before .before .before .before .before .before .before .before .before .before .before .before .before .before .loop .so-far) (c .before .before .before .before .before .before .before .before .before .before .before .before .before .before .before .before .loop .corners) (c .before .before .before .before .before .before .before .before .before .before .before .before .ring-at .last .1 .1 .0) (c .before .before .before .before .before .before .before .before .before .before .before .before .before .before .before .before .loop .lengths) (c .before .before .before .before .before .before .before .before .before .before .before .before .ring-at .last .1 .1 .1 .0)) (c .before .before .before .before .before .before .before .more .given .1) (c .before .before .before .before .before .before .before .before .before .before .before .before .ring-at .ensures)) (c .before .before .before .before .before .next-byte .result) (c .before .before .before .before .before .next-byte .ensures) (c .before .if2 .left) (byte-inside (c .before .before .before .before .before .before .before .before .before .before .before .before .before .before .before .before .before .before .before .before .args .text .now) (c .before .before .before .before .before .before .before .more .given .0 .1 .0) (c .before .before .before .before .before .next-byte .result) (c .before .before .before .before .before .next-byte .ensures) 43 (c .before .if2 .left)), c .before .before .before .before .before .before .before .before .before .before .before .before .before .before .before .before .loop .inv .1)
 
 same-length-10 : tie.Need-same-length-10 Inv-loop μ-loop
 same-length-10 c = corners-length (c .before .before .before .before .before .args .text .now) (c .before .before .before .before .before .args .at) (c .before .before .before .before .before .args .extent) (c .before .before .before .before .before .args .corners .now) (c .before .loop .corners) (c .before .before .before .before .before .args .lengths .now) (c .before .loop .lengths) (c .before .loop .so-far) (c .before .loop .place) (c .before .loop .inv .0)
@@ -116,7 +116,7 @@ polygon-spec =
     same-length-3
     returns
     enum-known-more
-    next-mark-requires
+    next-byte-requires
     sub-store
     store-requires
     with-polygon-requires

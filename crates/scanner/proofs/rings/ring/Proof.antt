@@ -4,7 +4,7 @@ use Prim.Native.Nat.{_-_}
 use native.Mathlib.Omega.{arith}
 use borrow.Author.Needs.{needs}
 use lib.ListN.{length, set, length-set}
-use Rattle.grammar.proofs.Steps.{mark-inside}
+use Rattle.grammar.proofs.Steps.{byte-inside}
 use Rattle.scanner.specs.Extents.{withRing, closes}
 use Rattle.scanner.specs.Scanned.{PositionRead}
 use Rattle.scanner.proofs.RingScans.{Round, no-round, round-early, round-length, position-off, mark-off, one-more, ring-whole, fewer}
@@ -38,8 +38,8 @@ returns c = position-off (c .before .before .before .before .before .before .bef
 enum-known-p : tie.Need-enum-known-p Inv-loop μ-loop
 enum-known-p c = search needs
 
-next-mark-requires : tie.Need-next-mark-requires Inv-loop μ-loop
-next-mark-requires c κs = let q = subst (PositionRead (c .before .before .before .before .before .before .before .before .args .text .now) (c .before .before .before .before .before .loop .place)) (c .before .p .given .1) (c .before .before .before .read-position .ensures) in q .ends .1
+next-byte-requires : tie.Need-next-byte-requires Inv-loop μ-loop
+next-byte-requires c κs = let q = subst (PositionRead (c .before .before .before .before .before .before .before .before .args .text .now) (c .before .before .before .before .before .loop .place)) (c .before .p .given .1) (c .before .before .before .read-position .ensures) in q .ends .1
 
 first-of-requires : tie.Need-first-of-requires Inv-loop μ-loop
 first-of-requires c κs = search needs
@@ -54,7 +54,7 @@ with-ring-requires : tie.Need-with-ring-requires Inv-loop μ-loop
 with-ring-requires c κs = let s = c .before .before .before .before .before .before .before .before .before .before .before .before .before .before .before .before .before in let o = c .before .before .before .before .before .before .before .before .before .before .before .before .before .before .loop .inv .0 .on in let i = c .before .before .before .before .before .before .before .before .before .before .before .before .before .before .loop .inv .0 .inside in let l = s .pre .0 in (fewer (s .args .extent) (s .args .at) 65536 (omega (arith, o, i, l)) (s .pre .2), omega (arith, o, i, l))
 
 add-t23 : tie.Need-add-t23 Inv-loop μ-loop
-add-t23 c = let h = (mark-inside (c .before .before .before .before .before .before .before .before .before .before .before .before .before .before .before .before .before .before .before .args .text .now) (c .before .before .before .before .before .before .before .before .before .before .before .before .p .given .0 .1 .0) (c .before .before .before .before .before .before .before .before .before .before .next-mark .result) (c .before .before .before .before .before .before .before .before .before .before .next-mark .ensures) 40 (c .before .before .before .before .before .before .before .if1 .taken)) in let l = c .before .before .before .before .before .before .before .before .before .before .before .before .before .before .before .before .before .before .before .pre .0 in omega (arith, h, l)
+add-t23 c = let h = (byte-inside (c .before .before .before .before .before .before .before .before .before .before .before .before .before .before .before .before .before .before .before .args .text .now) (c .before .before .before .before .before .before .before .before .before .before .before .before .p .given .0 .1 .0) (c .before .before .before .before .before .before .before .before .before .before .next-byte .result) (c .before .before .before .before .before .before .before .before .before .before .next-byte .ensures) 40 (c .before .before .before .before .before .before .before .if1 .taken)) in let l = c .before .before .before .before .before .before .before .before .before .before .before .before .before .before .before .before .before .before .before .pre .0 in omega (arith, h, l)
 
 same-length-3 : tie.Need-same-length-3 Inv-loop μ-loop
 same-length-3 c = round-length (c .before .before .before .before .before .before .before .before .before .before .before .before .before .before .before .before .before .before .before .args .text .now) (c .before .before .before .before .before .before .before .before .before .before .before .before .before .before .before .before .before .before .before .args .at) (c .before .before .before .before .before .before .before .before .before .before .before .before .before .before .before .before .before .before .before .args .extent .corners) (c .before .before .before .before .before .before .before .before .before .before .before .before .before .before .before .before .before .before .before .args .corners .now) (c .before .before .before .before .before .before .before .before .before .before .before .before .before .before .before .before .loop .corners) (c .before .before .before .before .before .before .before .before .before .before .before .before .before .before .before .before .loop .first) (c .before .before .before .before .before .before .before .before .before .before .before .before .before .before .before .before .loop .count) (c .before .before .before .before .before .before .before .before .before .before .before .before .before .before .before .before .loop .place) (c .before .before .before .before .before .before .before .before .before .before .before .before .before .before .before .before .loop .inv .0)
@@ -63,7 +63,7 @@ same-length-4 : tie.Need-same-length-4 Inv-loop μ-loop
 same-length-4 c = ap length (c .before .before .before .before .store .ensures) ∙ length-set (c .before .before .before .before .before .before .before .before .before .before .before .before .before .before .before .before .loop .lengths) (c .before .before .before .before .before .before .before .before .before .before .before .before .before .before .before .before .before .before .before .args .extent .rings) (c .before .before .before .before .before .before .before .before .before .before .before .before .before .before .before .before .loop .count) ∙ ap length (c .before .before .before .before .before .before .before .before .before .before .before .before .before .before .before .before .loop .inv .1)
 
 returns-2 : tie.Need-returns-2 Inv-loop μ-loop
-returns-2 c = ring-whole (c .before .before .before .before .before .before .before .before .before .before .before .before .before .before .before .before .before .before .before .args .text .now) (c .before .before .before .before .before .before .before .before .before .before .before .before .before .before .before .before .before .before .before .args .at) (c .before .before .before .before .before .before .before .before .before .before .before .before .before .before .before .before .before .before .before .args .extent .corners) (c .before .before .before .before .before .before .before .before .before .before .before .before .before .before .before .before .before .before .before .args .corners .now) (c .before .before .before .before .before .before .before .before .before .before .before .before .before .before .before .before .loop .corners) (c .before .before .before .before .before .before .before .before .before .before .before .before .before .before .before .before .loop .first) (c .before .before .before .before .before .before .before .before .before .before .before .before .before .before .before .before .loop .count) (c .before .before .before .before .before .before .before .before .before .before .before .before .before .before .before .before .loop .place) (c .before .before .before .before .before .before .before .before .before .before .before .before .before .before .before .before .loop .inv .0) (c .before .before .before .before .before .before .before .before .before .before .before .before .p .given .0 .0) (c .before .before .before .before .before .before .before .before .before .before .before .before .p .given .0 .1 .0) (subst (PositionRead (c .before .before .before .before .before .before .before .before .before .before .before .before .before .before .before .before .before .before .before .args .text .now) (c .before .before .before .before .before .before .before .before .before .before .before .before .before .before .before .before .loop .place)) (c .before .before .before .before .before .before .before .before .before .before .before .before .p .given .1) (c .before .before .before .before .before .before .before .before .before .before .before .before .before .before .read-position .ensures)) (c .before .before .before .before .before .before .before .before .before .before .next-mark .result) (c .before .before .before .before .before .before .before .before .before .before .next-mark .ensures) (c .before .before .before .before .before .before .before .before .before .before .before .before .before .before .before .before .before .before .before .args .extent) (c .before .with-ring .result) (c .before .before .before .before .before .before .before .before .before .before .before .before .before .before .before .before .before .before .before .args .lengths .now) (c .before .before .before .before .store .last .0) refl (c .before .before .before .before .before .before .before .if1 .taken) (mark-inside (c .before .before .before .before .before .before .before .before .before .before .before .before .before .before .before .before .before .before .before .args .text .now) (c .before .before .before .before .before .before .before .before .before .before .before .before .p .given .0 .1 .0) (c .before .before .before .before .before .before .before .before .before .before .next-mark .result) (c .before .before .before .before .before .before .before .before .before .before .next-mark .ensures) 40 (c .before .before .before .before .before .before .before .if1 .taken)) (c .before .before .before .before .before .before .before .before .before .before .before .before .before .before .before .before .before .before .before .pre .2) (c .before .with-ring .ensures ∙ ap (withRing (c .before .before .before .before .before .before .before .before .before .before .before .before .before .before .before .before .before .before .before .args .extent) (c .before .before .before .before .before .before .before .before .before .before .before .before .before .before .before .before .loop .count)) (c .before .before .before .before .before .before .closes .ensures ∙ ap (λ o. closes (c .before .before .before .before .before .before .before .before .before .before .before .before .before .before .before .before .loop .count) o (c .before .before .before .before .before .before .before .before .before .before .before .before .p .given .0 .0)) (c .before .before .before .before .before .before .before .before .before .first-of .ensures))) (c .before .before .before .before .store .ensures ∙ ap (λ t. set t (c .before .before .before .before .before .before .before .before .before .before .before .before .before .before .before .before .before .before .before .args .extent .rings) (c .before .before .before .before .before .before .before .before .before .before .before .before .before .before .before .before .loop .count)) (c .before .before .before .before .before .before .before .before .before .before .before .before .before .before .before .before .loop .inv .1))
+returns-2 c = ring-whole (c .before .before .before .before .before .before .before .before .before .before .before .before .before .before .before .before .before .before .before .args .text .now) (c .before .before .before .before .before .before .before .before .before .before .before .before .before .before .before .before .before .before .before .args .at) (c .before .before .before .before .before .before .before .before .before .before .before .before .before .before .before .before .before .before .before .args .extent .corners) (c .before .before .before .before .before .before .before .before .before .before .before .before .before .before .before .before .before .before .before .args .corners .now) (c .before .before .before .before .before .before .before .before .before .before .before .before .before .before .before .before .loop .corners) (c .before .before .before .before .before .before .before .before .before .before .before .before .before .before .before .before .loop .first) (c .before .before .before .before .before .before .before .before .before .before .before .before .before .before .before .before .loop .count) (c .before .before .before .before .before .before .before .before .before .before .before .before .before .before .before .before .loop .place) (c .before .before .before .before .before .before .before .before .before .before .before .before .before .before .before .before .loop .inv .0) (c .before .before .before .before .before .before .before .before .before .before .before .before .p .given .0 .0) (c .before .before .before .before .before .before .before .before .before .before .before .before .p .given .0 .1 .0) (subst (PositionRead (c .before .before .before .before .before .before .before .before .before .before .before .before .before .before .before .before .before .before .before .args .text .now) (c .before .before .before .before .before .before .before .before .before .before .before .before .before .before .before .before .loop .place)) (c .before .before .before .before .before .before .before .before .before .before .before .before .p .given .1) (c .before .before .before .before .before .before .before .before .before .before .before .before .before .before .read-position .ensures)) (c .before .before .before .before .before .before .before .before .before .before .next-byte .result) (c .before .before .before .before .before .before .before .before .before .before .next-byte .ensures) (c .before .before .before .before .before .before .before .before .before .before .before .before .before .before .before .before .before .before .before .args .extent) (c .before .with-ring .result) (c .before .before .before .before .before .before .before .before .before .before .before .before .before .before .before .before .before .before .before .args .lengths .now) (c .before .before .before .before .store .last .0) refl (c .before .before .before .before .before .before .before .if1 .taken) (byte-inside (c .before .before .before .before .before .before .before .before .before .before .before .before .before .before .before .before .before .before .before .args .text .now) (c .before .before .before .before .before .before .before .before .before .before .before .before .p .given .0 .1 .0) (c .before .before .before .before .before .before .before .before .before .before .next-byte .result) (c .before .before .before .before .before .before .before .before .before .before .next-byte .ensures) 40 (c .before .before .before .before .before .before .before .if1 .taken)) (c .before .before .before .before .before .before .before .before .before .before .before .before .before .before .before .before .before .before .before .pre .2) (c .before .with-ring .ensures ∙ ap (withRing (c .before .before .before .before .before .before .before .before .before .before .before .before .before .before .before .before .before .before .before .args .extent) (c .before .before .before .before .before .before .before .before .before .before .before .before .before .before .before .before .loop .count)) (c .before .before .before .before .before .before .closes .ensures ∙ ap (λ o. closes (c .before .before .before .before .before .before .before .before .before .before .before .before .before .before .before .before .loop .count) o (c .before .before .before .before .before .before .before .before .before .before .before .before .p .given .0 .0)) (c .before .before .before .before .before .before .before .before .before .first-of .ensures))) (c .before .before .before .before .store .ensures ∙ ap (λ t. set t (c .before .before .before .before .before .before .before .before .before .before .before .before .before .before .before .before .before .before .before .args .extent .rings) (c .before .before .before .before .before .before .before .before .before .before .before .before .before .before .before .before .loop .count)) (c .before .before .before .before .before .before .before .before .before .before .before .before .before .before .before .before .loop .inv .1))
 
 same-length-5 : tie.Need-same-length-5 Inv-loop μ-loop
 same-length-5 c = round-length (c .before .before .before .before .before .before .before .before .before .before .before .before .before .before .args .text .now) (c .before .before .before .before .before .before .before .before .before .before .before .before .before .before .args .at) (c .before .before .before .before .before .before .before .before .before .before .before .before .before .before .args .extent .corners) (c .before .before .before .before .before .before .before .before .before .before .before .before .before .before .args .corners .now) (c .before .before .before .before .before .before .before .before .before .before .before .loop .corners) (c .before .before .before .before .before .before .before .before .before .before .before .loop .first) (c .before .before .before .before .before .before .before .before .before .before .before .loop .count) (c .before .before .before .before .before .before .before .before .before .before .before .loop .place) (c .before .before .before .before .before .before .before .before .before .before .before .loop .inv .0)
@@ -72,7 +72,7 @@ same-length-6 : tie.Need-same-length-6 Inv-loop μ-loop
 same-length-6 c = ap length (c .before .before .before .before .before .before .before .before .before .before .before .loop .inv .1)
 
 returns-3 : tie.Need-returns-3 Inv-loop μ-loop
-returns-3 c = mark-off (c .before .before .before .before .before .before .before .before .before .before .before .before .before .before .args .text .now) (c .before .before .before .before .before .before .before .before .before .before .before .before .before .before .args .at) (c .before .before .before .before .before .before .before .before .before .before .before .before .before .before .args .extent .corners) (c .before .before .before .before .before .before .before .before .before .before .before .before .before .before .args .corners .now) (c .before .before .before .before .before .before .before .before .before .before .before .loop .corners) (c .before .before .before .before .before .before .before .before .before .before .before .loop .first) (c .before .before .before .before .before .before .before .before .before .before .before .loop .count) (c .before .before .before .before .before .before .before .before .before .before .before .loop .place) (c .before .before .before .before .before .before .before .before .before .before .before .loop .inv .0) (c .before .before .before .before .before .before .before .p .given .0 .0) (c .before .before .before .before .before .before .before .p .given .0 .1 .0) (subst (PositionRead (c .before .before .before .before .before .before .before .before .before .before .before .before .before .before .args .text .now) (c .before .before .before .before .before .before .before .before .before .before .before .loop .place)) (c .before .before .before .before .before .before .before .p .given .1) (c .before .before .before .before .before .before .before .before .before .read-position .ensures)) (c .before .before .before .before .before .next-mark .result) (c .before .before .before .before .before .next-mark .ensures) (c .if2 .taken) (c .before .before .if1 .left)
+returns-3 c = mark-off (c .before .before .before .before .before .before .before .before .before .before .before .before .before .before .args .text .now) (c .before .before .before .before .before .before .before .before .before .before .before .before .before .before .args .at) (c .before .before .before .before .before .before .before .before .before .before .before .before .before .before .args .extent .corners) (c .before .before .before .before .before .before .before .before .before .before .before .before .before .before .args .corners .now) (c .before .before .before .before .before .before .before .before .before .before .before .loop .corners) (c .before .before .before .before .before .before .before .before .before .before .before .loop .first) (c .before .before .before .before .before .before .before .before .before .before .before .loop .count) (c .before .before .before .before .before .before .before .before .before .before .before .loop .place) (c .before .before .before .before .before .before .before .before .before .before .before .loop .inv .0) (c .before .before .before .before .before .before .before .p .given .0 .0) (c .before .before .before .before .before .before .before .p .given .0 .1 .0) (subst (PositionRead (c .before .before .before .before .before .before .before .before .before .before .before .before .before .before .args .text .now) (c .before .before .before .before .before .before .before .before .before .before .before .loop .place)) (c .before .before .before .before .before .before .before .p .given .1) (c .before .before .before .before .before .before .before .before .before .read-position .ensures)) (c .before .before .before .before .before .next-byte .result) (c .before .before .before .before .before .next-byte .ensures) (c .if2 .taken) (c .before .before .if1 .left)
 
 add-store-corner : tie.Need-add-store-corner Inv-loop μ-loop
 add-store-corner c = let o = c .before .before .before .before .before .before .before .before .before .before .before .before .loop .inv .0 .on in let i = c .before .before .before .before .before .before .before .before .before .before .before .before .loop .inv .0 .inside in let l = c .before .before .before .before .before .before .before .before .before .before .before .before .before .before .before .pre .0 in let f = c .before .before .before .before .before .before .before .before .before .before .before .before .before .before .before .pre .2 .corners in omega (arith, o, i, l, f)
@@ -84,13 +84,13 @@ add-count : tie.Need-add-count Inv-loop μ-loop
 add-count c = let o = c .before .before .before .before .before .before .before .before .before .before .before .before .before .before .loop .inv .0 .on in let i = c .before .before .before .before .before .before .before .before .before .before .before .before .before .before .loop .inv .0 .inside in let l = c .before .before .before .before .before .before .before .before .before .before .before .before .before .before .before .before .before .pre .0 in omega (arith, o, i, l)
 
 add-place : tie.Need-add-place Inv-loop μ-loop
-add-place c = let h = (mark-inside (c .before .before .before .before .before .before .before .before .before .before .before .before .before .before .before .before .before .before .args .text .now) (c .before .before .before .before .before .before .before .before .before .before .before .p .given .0 .1 .0) (c .before .before .before .before .before .before .before .before .before .next-mark .result) (c .before .before .before .before .before .before .before .before .before .next-mark .ensures) 43 (c .before .before .before .before .if2 .left)) in let l = c .before .before .before .before .before .before .before .before .before .before .before .before .before .before .before .before .before .before .pre .0 in omega (arith, h, l)
+add-place c = let h = (byte-inside (c .before .before .before .before .before .before .before .before .before .before .before .before .before .before .before .before .before .before .args .text .now) (c .before .before .before .before .before .before .before .before .before .before .before .p .given .0 .1 .0) (c .before .before .before .before .before .before .before .before .before .next-byte .result) (c .before .before .before .before .before .before .before .before .before .next-byte .ensures) 43 (c .before .before .before .before .if2 .left)) in let l = c .before .before .before .before .before .before .before .before .before .before .before .before .before .before .before .before .before .before .pre .0 in omega (arith, h, l)
 
 loop-less : tie.Need-loop-less Inv-loop μ-loop
-loop-less c = let h = (mark-inside (c .before .before .before .before .before .before .before .before .before .before .before .before .before .before .before .before .before .before .args .text .now) (c .before .before .before .before .before .before .before .before .before .before .before .p .given .0 .1 .0) (c .before .before .before .before .before .before .before .before .before .next-mark .result) (c .before .before .before .before .before .before .before .before .before .next-mark .ensures) 43 (c .before .before .before .before .if2 .left)) in let q = subst (PositionRead (c .before .before .before .before .before .before .before .before .before .before .before .before .before .before .before .before .before .before .args .text .now) (c .before .before .before .before .before .before .before .before .before .before .before .before .before .before .before .loop .place)) (c .before .before .before .before .before .before .before .before .before .before .before .p .given .1) (c .before .before .before .before .before .before .before .before .before .before .before .before .before .read-position .ensures) in let e = q .ends .0 in let o = c .before .before .before .before .before .before .before .before .before .next-mark .ensures .skipped .on in omega (arith, h, e, o)
+loop-less c = let h = (byte-inside (c .before .before .before .before .before .before .before .before .before .before .before .before .before .before .before .before .before .before .args .text .now) (c .before .before .before .before .before .before .before .before .before .before .before .p .given .0 .1 .0) (c .before .before .before .before .before .before .before .before .before .next-byte .result) (c .before .before .before .before .before .before .before .before .before .next-byte .ensures) 43 (c .before .before .before .before .if2 .left)) in let q = subst (PositionRead (c .before .before .before .before .before .before .before .before .before .before .before .before .before .before .before .before .before .before .args .text .now) (c .before .before .before .before .before .before .before .before .before .before .before .before .before .before .before .loop .place)) (c .before .before .before .before .before .before .before .before .before .before .before .p .given .1) (c .before .before .before .before .before .before .before .before .before .before .before .before .before .read-position .ensures) in let e = q .ends .0 in let o = c .before .before .before .before .before .before .before .before .before .next-byte .ensures .skipped .on in omega (arith, h, e, o)
 
 loop-again : tie.Need-loop-again Inv-loop μ-loop
-loop-again c = (one-more (c .before .before .before .before .before .before .before .before .before .before .before .before .before .before .before .before .before .before .args .text .now) (c .before .before .before .before .before .before .before .before .before .before .before .before .before .before .before .before .before .before .args .at) (c .before .before .before .before .before .before .before .before .before .before .before .before .before .before .before .before .before .before .args .extent .corners) (c .before .before .before .before .before .before .before .before .before .before .before .before .before .before .before .before .before .before .args .corners .now) (c .before .before .before .before .before .before .before .before .before .before .before .before .before .before .before .loop .corners) (c .before .before .before .before .before .before .before .before .before .before .before .before .before .before .before .loop .first) (c .before .before .before .before .before .before .before .before .before .before .before .before .before .before .before .loop .count) (c .before .before .before .before .before .before .before .before .before .before .before .before .before .before .before .loop .place) (c .before .before .before .before .before .before .before .before .before .before .before .before .before .before .before .loop .inv .0) (c .before .before .before .before .before .before .before .before .before .before .before .p .given .0 .0) (c .before .before .before .before .before .before .before .before .before .before .before .p .given .0 .1 .0) (subst (PositionRead (c .before .before .before .before .before .before .before .before .before .before .before .before .before .before .before .before .before .before .args .text .now) (c .before .before .before .before .before .before .before .before .before .before .before .before .before .before .before .loop .place)) (c .before .before .before .before .before .before .before .before .before .before .before .p .given .1) (c .before .before .before .before .before .before .before .before .before .before .before .before .before .read-position .ensures)) (c .before .before .before .before .before .before .before .before .before .next-mark .result) (c .before .before .before .before .before .before .before .before .before .next-mark .ensures) (c .before .before .before .before .before .before .before .before .first-of .result) (c .before .before .store-corner .last .0) (c .before .before .before .before .if2 .left) (c .before .before .before .before .before .before .before .before .first-of .ensures) (mark-inside (c .before .before .before .before .before .before .before .before .before .before .before .before .before .before .before .before .before .before .args .text .now) (c .before .before .before .before .before .before .before .before .before .before .before .p .given .0 .1 .0) (c .before .before .before .before .before .before .before .before .before .next-mark .result) (c .before .before .before .before .before .before .before .before .before .next-mark .ensures) 43 (c .before .before .before .before .if2 .left)) (c .before .before .store-corner .ensures), c .before .before .before .before .before .before .before .before .before .before .before .before .before .before .before .loop .inv .1)
+loop-again c = (one-more (c .before .before .before .before .before .before .before .before .before .before .before .before .before .before .before .before .before .before .args .text .now) (c .before .before .before .before .before .before .before .before .before .before .before .before .before .before .before .before .before .before .args .at) (c .before .before .before .before .before .before .before .before .before .before .before .before .before .before .before .before .before .before .args .extent .corners) (c .before .before .before .before .before .before .before .before .before .before .before .before .before .before .before .before .before .before .args .corners .now) (c .before .before .before .before .before .before .before .before .before .before .before .before .before .before .before .loop .corners) (c .before .before .before .before .before .before .before .before .before .before .before .before .before .before .before .loop .first) (c .before .before .before .before .before .before .before .before .before .before .before .before .before .before .before .loop .count) (c .before .before .before .before .before .before .before .before .before .before .before .before .before .before .before .loop .place) (c .before .before .before .before .before .before .before .before .before .before .before .before .before .before .before .loop .inv .0) (c .before .before .before .before .before .before .before .before .before .before .before .p .given .0 .0) (c .before .before .before .before .before .before .before .before .before .before .before .p .given .0 .1 .0) (subst (PositionRead (c .before .before .before .before .before .before .before .before .before .before .before .before .before .before .before .before .before .before .args .text .now) (c .before .before .before .before .before .before .before .before .before .before .before .before .before .before .before .loop .place)) (c .before .before .before .before .before .before .before .before .before .before .before .p .given .1) (c .before .before .before .before .before .before .before .before .before .before .before .before .before .read-position .ensures)) (c .before .before .before .before .before .before .before .before .before .next-byte .result) (c .before .before .before .before .before .before .before .before .before .next-byte .ensures) (c .before .before .before .before .before .before .before .before .first-of .result) (c .before .before .store-corner .last .0) (c .before .before .before .before .if2 .left) (c .before .before .before .before .before .before .before .before .first-of .ensures) (byte-inside (c .before .before .before .before .before .before .before .before .before .before .before .before .before .before .before .before .before .before .args .text .now) (c .before .before .before .before .before .before .before .before .before .before .before .p .given .0 .1 .0) (c .before .before .before .before .before .before .before .before .before .next-byte .result) (c .before .before .before .before .before .before .before .before .before .next-byte .ensures) 43 (c .before .before .before .before .if2 .left)) (c .before .before .store-corner .ensures), c .before .before .before .before .before .before .before .before .before .before .before .before .before .before .before .loop .inv .1)
 
 same-length-7 : tie.Need-same-length-7 Inv-loop μ-loop
 same-length-7 c = round-length (c .before .before .before .before .args .text .now) (c .before .before .before .before .args .at) (c .before .before .before .before .args .extent .corners) (c .before .before .before .before .args .corners .now) (c .before .loop .corners) (c .before .loop .first) (c .before .loop .count) (c .before .loop .place) (c .before .loop .inv .0)
@@ -114,7 +114,7 @@ ring-spec =
     same-length-2
     returns
     enum-known-p
-    next-mark-requires
+    next-byte-requires
     first-of-requires
     closes-requires
     store-requires

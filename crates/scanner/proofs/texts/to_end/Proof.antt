@@ -14,19 +14,19 @@ enum-known-scan c = search needs
 enum-known-scan-2 : tie.Need-enum-known-scan-2
 enum-known-scan-2 c = search needs
 
-next-mark-requires : tie.Need-next-mark-requires
-next-mark-requires c κs = subst (Within (c .before .before .before .before .args .text .now)) (c .before .scan2 .given .1) (c .before .before .before .before .pre)
+next-byte-requires : tie.Need-next-byte-requires
+next-byte-requires c κs = subst (Within (c .before .before .before .before .args .text .now)) (c .before .scan2 .given .1) (c .before .before .before .before .pre)
 
 returns : tie.Need-returns
-returns c = subst (λ s. Ended (c .before .before .before .before .before .before .before .args .text .now) s (Off (c .before .before .next-mark .result .at))) (sym (c .before .before .before .before .scan2 .given .1)) (end-off (c .before .before .before .before .before .before .before .args .text .now) (c .before .before .before .before .scan2 .given .0 .1 .0) (c .before .before .next-mark .result) (c .before .before .next-mark .ensures) (c .if1 .taken))
+returns c = subst (λ s. Ended (c .before .before .before .before .before .before .before .args .text .now) s (Off (c .before .before .next-byte .result .at))) (sym (c .before .before .before .before .scan2 .given .1)) (end-off (c .before .before .before .before .before .before .before .args .text .now) (c .before .before .before .before .scan2 .given .0 .1 .0) (c .before .before .next-byte .result) (c .before .before .next-byte .ensures) (c .if1 .taken))
 
 returns-2 : tie.Need-returns-2
 returns-2 c = subst (λ s. Ended (c .before .before .before .before .args .text .now) s (Off (c .before .scan .given .0 .0))) (sym (c .before .scan .given .1)) refl
 
 returns-3 : tie.Need-returns-3
-returns-3 c = subst (λ s. Ended (c .before .before .before .before .before .before .before .args .text .now) s (Read (c .before .before .before .before .scan2 .given .0 .0) (c .before .before .next-mark .result .at))) (sym (c .before .before .before .before .scan2 .given .1)) (refl, end-whole (c .before .before .before .before .before .before .before .args .text .now) (c .before .before .before .before .scan2 .given .0 .1 .0) (c .before .before .next-mark .result) (c .before .before .next-mark .ensures) (c .if1 .left))
+returns-3 c = subst (λ s. Ended (c .before .before .before .before .before .before .before .args .text .now) s (Read (c .before .before .before .before .scan2 .given .0 .0) (c .before .before .next-byte .result .at))) (sym (c .before .before .before .before .scan2 .given .1)) (refl, end-whole (c .before .before .before .before .before .before .before .args .text .now) (c .before .before .before .before .scan2 .given .0 .1 .0) (c .before .before .next-byte .result) (c .before .before .next-byte .ensures) (c .if1 .left))
 
 pub to-end-spec : {M : Type 1} → statement M
 to-end-spec =
     tie.close
-    (tie.spec enum-known-scan enum-known-scan-2 next-mark-requires returns returns-2 returns-3)
+    (tie.spec enum-known-scan enum-known-scan-2 next-byte-requires returns returns-2 returns-3)
