@@ -1,5 +1,5 @@
 -- The contracts of `read_wkt` and `write_wkt`, whatever the code is, rule out wrong readers and writers. Assumes nothing.
-use mathlib.Core.Path.{_≡_, ap, _∙_}
+use mathlib.Core.Path.{_≡_, ap, _∙_, refl}
 use mathlib.Core.Bool.{true, cond}
 use mathlib.Core.List.{List, [], _∷_}
 use Prim.Native.Nat.{ℕ, _<_}
@@ -10,7 +10,7 @@ use borrow.Author.Tests.{lt-ltb}
 use Rattle.fields.specs.Decimals.{decimal, digits, digitsWithin}
 use Rattle.rules.specs.declared.Kind.the-variants.{Polygons, Tree}
 use Rattle.rules.specs.declared.Refusal.{Refusal}
-use Rattle.rules.specs.declared.Refusal.the-variants.{TextTooLong, TableTooShort, OffGrammar, Unclosed}
+use Rattle.rules.specs.declared.Refusal.the-variants.{TextTooLong, TableTooShort, Unsound, OffGrammar, Unclosed}
 use Rattle.rules.specs.declared.Table.the-variants as Table
 use Rattle.rules.specs.declared.Verdict.the-variants.{Accepted}
 use Rattle.rules.specs.Lists.{anyOf, total, partsOf}
@@ -24,8 +24,9 @@ use Rattle.grammar.specs.Plans.{isClosed, endsAt, allClosed, everyClosed, numbe
 use Rattle.grammar.specs.Texts.{after, inBrackets, wktText, closed, dropLast, wktOf}
 use Rattle.wkt.specs.declared.write.Writing.{Writing}
 use Rattle.wkt.specs.declared.write.Writing as Writing
+use Rattle.wkt.specs.Numbers.{readNumbers}
 use Rattle.wkt.specs.Readings.{reading, WktRead}
-use Rattle.wkt.specs.Writings.{drawable, withOutput, writingOf, writing, outputAfter, WktWritten}
+use Rattle.wkt.specs.Writings.{drawable, withOutput, writingOf, writing, unnamedWriting, outputAfter, WktWritten}
 
 -- ---- reading
 
@@ -93,7 +94,16 @@ pub polygons-named-last : (c′ : List ℤ) (l′ : List ℕ) (r : Reading) → 
 unfolding reading spelling read nextMode eventOf everyClosed allClosed isClosed endsAt coordinates ringNumbers numbersOf lengths ringLengths counts dropLast total
 polygons-named-last c′ l′ r g = g .answer
 
+-- counts in another order, as numbers
+pub counts-numbered : readNumbers (Read (record { kind = Polygons; corners = 3; rings = 2; polygons = 1 })) ≡ record { refusal = 0; detail = 0; corners = 3; rings = 2; polygons = 1 }
+counts-numbered = refl
+
 -- ---- writing
+
+-- a number that names no kind judged as a list: one polygon of one ring that is not there gets 3 in a list, and a tree has no polygons
+pub unnamed-as-a-tree : unnamedWriting (planVerdict (record { kind = Tree; coordinates = []; lengths = []; counts = 1 ∷ [] })) ≡ Writing.the-variants.Refused Unsound
+unfolding planVerdict tooMany uneven anyOf total
+unnamed-as-a-tree = refl
 
 pub nothing-written : (plan : Plan) (output output′ : List ℕ) (refusal : Refusal) → WktWritten plan output output′ (Writing.the-variants.Refused refusal) → output′ ≡ output
 nothing-written plan output output′ refusal g = g .output-written
