@@ -1,9 +1,8 @@
 //! One shape measured: each operation by both engines in turn, repetition after repetition.
 
-use crate::points::{moves, points};
-use crate::shapes::{Corner, Shape};
-use findspot::Kind;
 use polyclip::{PolyNode, PolyTree, Polygon, Preparable};
+use shapes::points::{moves, points};
+use shapes::{Corner, Kind, Shape};
 use std::hint::black_box;
 use timing::clock::{median, timed};
 use timing::in_turn::{Effort, Figures, in_turn, means_in_turn};

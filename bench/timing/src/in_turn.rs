@@ -31,18 +31,28 @@ pub struct Figures {
     pub theirs: f64,
 }
 
+/// What two ways to measure give, ours and theirs, taken in turn: a pair a repetition, whose number both are told.
+pub fn pairs_in_turn<T>(
+    effort: Effort,
+    ours: impl Fn(usize) -> T,
+    theirs: impl Fn(usize) -> T,
+) -> Vec<(T, T)> {
+    let pair = |repetition| {
+        if repetition % 2 == 0 {
+            let of_ours = ours(repetition);
+            (of_ours, theirs(repetition))
+        } else {
+            let of_theirs = theirs(repetition);
+            (ours(repetition), of_theirs)
+        }
+    };
+    (0..effort.repetitions).map(pair).collect()
+}
+
 /// The medians of two ways to measure, taken in turn.
 pub fn in_turn(effort: Effort, ours: impl Fn() -> f64, theirs: impl Fn() -> f64) -> Figures {
-    let (mut of_ours, mut of_theirs) = (Vec::new(), Vec::new());
-    for repetition in 0..effort.repetitions {
-        if repetition % 2 == 0 {
-            of_ours.push(ours());
-            of_theirs.push(theirs());
-        } else {
-            of_theirs.push(theirs());
-            of_ours.push(ours());
-        }
-    }
+    let pairs = pairs_in_turn(effort, |_| ours(), |_| theirs());
+    let (of_ours, of_theirs) = pairs.into_iter().unzip();
     Figures {
         ours: median(of_ours),
         theirs: median(of_theirs),

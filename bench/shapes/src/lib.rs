@@ -1,8 +1,21 @@
-//! The plans that are timed, each of about so many corners and within the ceilings.
+//! The plans that are timed, each of about so many corners and within the ceilings. Beside them the [`points`] to ask, and the [`arguments`] that
+//! choose among shapes and sizes.
+
+pub mod arguments;
+pub mod points;
+pub mod random;
+
+pub use plans::plan::Kind;
 
 use crate::random::Random;
-use findspot::{Kind, MAX_RINGS};
+use plans::plan::Plan;
 use std::f64::consts::TAU;
+
+/// The most corners that a plan may have.
+pub const MAX_CORNERS: usize = 1_048_576;
+
+/// The most rings that a plan may have.
+pub const MAX_RINGS: usize = 65_536;
 
 /// A corner.
 pub type Corner = (i64, i64);
@@ -11,6 +24,22 @@ pub type Corner = (i64, i64);
 pub struct Shape {
     pub kind: Kind,
     pub rings: Vec<Vec<Corner>>,
+}
+
+impl Shape {
+    /// The plan of one outline.
+    pub fn ring(corners: Vec<Corner>) -> Shape {
+        list(vec![corners])
+    }
+
+    /// The shape as tables, as they are handed in.
+    pub fn plan(&self) -> Plan {
+        let polygon = |ring: &Vec<Corner>| vec![ring.clone()];
+        match self.kind {
+            Kind::List => Plan::list(&self.rings.iter().map(polygon).collect::<Vec<_>>()),
+            Kind::Tree => Plan::tree(&self.rings),
+        }
+    }
 }
 
 /// A shape's name, and the shape of about so many corners.
@@ -27,6 +56,11 @@ pub const SHAPES: [Named; 8] = [
     ("self-crossing", self_crossing),
     ("all equal", all_equal),
 ];
+
+/// The names of all shapes.
+pub fn names() -> Vec<&'static str> {
+    SHAPES.iter().map(|(name, _)| *name).collect()
+}
 
 /// How far round outlines reach from the origin.
 const REACH: f64 = 1e9;
@@ -56,7 +90,7 @@ fn round(centre: Corner, corners: usize, distance: impl Fn(usize, f64) -> f64) -
 /// Spikes: every other corner stands half as far from the centre.
 fn star(corners: usize) -> Shape {
     let distance = |i, _| if i % 2 == 0 { REACH } else { REACH / 2.0 };
-    list(vec![round((0, 0), corners, distance)])
+    Shape::ring(round((0, 0), corners, distance))
 }
 
 /// A round outline with bays, its edges short.
@@ -65,7 +99,7 @@ fn smooth_outline(corners: usize) -> Shape {
         let bays = 0.2 * (3.0 * angle).sin() + 0.1 * (7.0 * angle).sin();
         REACH * (1.0 + bays)
     };
-    list(vec![round((0, 0), corners, distance)])
+    Shape::ring(round((0, 0), corners, distance))
 }
 
 /// The lower left corners of cells side by side, row by row.
@@ -112,7 +146,7 @@ fn comb(corners: usize) -> Shape {
         let side = x + CELL / 2;
         ring.extend([(x, 0), (x, height), (side, height), (side, 0)]);
     }
-    list(vec![ring])
+    Shape::ring(ring)
 }
 
 /// One ring through corners anywhere.
@@ -120,10 +154,10 @@ fn self_crossing(corners: usize) -> Shape {
     let mut random = Random::new(corners as u64);
     let reach = REACH as i64;
     let mut corner = || (random.between(-reach, reach), random.between(-reach, reach));
-    list(vec![(0..corners).map(|_| corner()).collect()])
+    Shape::ring((0..corners).map(|_| corner()).collect())
 }
 
 /// One ring whose corners stand at one place.
 fn all_equal(corners: usize) -> Shape {
-    list(vec![vec![(7, 7); corners]])
+    Shape::ring(vec![(7, 7); corners])
 }
