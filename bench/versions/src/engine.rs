@@ -17,6 +17,7 @@ pub struct Engine {
 }
 
 impl Version {
+    /// Both, in the order of the tables' columns.
     pub const BOTH: [Version; 2] = [Version::Before, Version::After];
 
     /// Its first copy.
@@ -35,6 +36,7 @@ impl Version {
 }
 
 impl Engine {
+    /// The exports of this copy.
     pub fn exports(self) -> &'static Exports {
         match self.version {
             Version::Before => &BEFORE[self.copy],

@@ -33,6 +33,7 @@ const LOCATE_DOUBLED: LookUp = LookUp {
     ask: |prepared, exports, point| prepared.look_up(exports.findspot_locate_doubled, point),
 };
 
+/// On the grid, through every ring.
 pub const BY_RINGS: LookUp = LookUp {
     name: "Ring by ring",
     doubled: false,
@@ -41,6 +42,7 @@ pub const BY_RINGS: LookUp = LookUp {
     },
 };
 
+/// On the half-grid, through every ring.
 pub const DOUBLED_BY_RINGS: LookUp = LookUp {
     name: "Ring by ring, doubled",
     doubled: true,

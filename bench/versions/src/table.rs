@@ -43,7 +43,7 @@ fn write_calls(name: &str, sizes: &[usize], rows: &[Row], of: impl Fn(&Measured)
 pub fn write_turns(rows: &[TurnRow]) {
     for (number, look_up) in turns::LOOK_UPS.iter().enumerate() {
         println!(
-            "{}, one ring of {} edges that all pass the point's height: ns an edge, and how many of them a turn takes:\n",
+            "{}, one ring of {} edges that all pass the point's height: ns of an edge, and of a turn:\n",
             look_up.name,
             grouped(EDGES as f64)
         );

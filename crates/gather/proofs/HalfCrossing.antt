@@ -1,6 +1,6 @@
 -- The half-grid's walk on sound tables: from the start through the steps to the reply, for each of the four rays. Assumes nothing.
 use mathlib.Core.Path.{_≡_, refl, sym, ap, ap₂, _∙_, subst}
-use mathlib.Core.Bool.{Bool, true, false, cond, _||_}
+use mathlib.Core.Bool.{Bool, true, false, not, cond, _||_, Bool·beq}
 use mathlib.Core.List.{List, [], _∷_}
 use Prim.Native.Nat.{ℕ, zero, suc, _+_, _%_, _≤_, _<_}
 use native.Mathlib.Decide.{ℕ-discrete}
@@ -19,7 +19,9 @@ use Rattle.rules.specs.Replies.{halfReply}
 use Rattle.rules.specs.Tables.{planOf}
 use Rattle.rules.proofs.Indexed.{anyTo, countTo}
 use Rattle.rings.specs.declared.crossings.Crossing.{Crossing}
+use Rattle.rings.specs.declared.crossings.Crossing.the-variants.{Nothing, Up, Down, On}
 use Rattle.rings.specs.Crossings.{isOn}
+use Rattle.rings.specs.Half.{crossedOnce}
 use Rattle.boxes.specs.Boxes.{rectAt}
 use Rattle.boxes.specs.Rings.{RingEnds}
 use Rattle.boxes.proofs.PlanEdges.{plan-rings, plan-corners}
@@ -137,3 +139,14 @@ module _ (state : State) (corners : List ℤ) (rings polygons : List ℕ) (boxes
       (sym (A .off) ∙ any-all (state .corners) corners rings boxes parts edges (W .walk) query (A .yielded) (A .behind) (λ e. isOn (crossingsHalf e)) (λ e m. ap isOn (missed e m)))
       (A .parity ∙ ap isOdd (count-all (state .corners) corners rings boxes parts edges (W .walk) query (A .yielded) (A .behind) (λ e. isCrossed (crossingsHalf e)) (λ e m. ap isCrossed (missed e m))))
       ∙ sym (half-reply-along state corners rings polygons (S .plan) ray p)
+
+-- a parity with one more edge, by whether the edge is crossed
+pub turned : (odd : Bool) (k : Crossing) → not (Bool·beq odd (isCrossed k)) ≡ crossedOnce odd k
+turned true Nothing = refl
+turned true Up = refl
+turned true Down = refl
+turned true On = refl
+turned false Nothing = refl
+turned false Up = refl
+turned false Down = refl
+turned false On = refl

@@ -7,6 +7,7 @@ ghost use Rattle.rules.specs.Plans.{ringsOf};
 ghost use Rattle.rules.specs.Replies.{halfReply};
 ghost use Rattle.rules.specs.Tables.{planOf};
 ghost use Rattle.rings.specs.Half.{crossedOnce};
+ghost use Rattle.rays.specs.Along.{isCrossed};
 ghost use Rattle.rays.specs.Numbered.{halfCrossingAt};
 ghost use Rattle.gather.specs.Collections.{MetSays};
 ghost use Rattle.gather.specs.Regions.{LookedUp};
@@ -77,16 +78,23 @@ fn half_met_at(
     }
 }
 
-// A parity with one more edge.
+// Whether an edge is crossed.
+fn is_crossed(crossing: Crossing) -> bool
+    ensures { λ r. ⌜ r ≡ isCrossed crossing ⌝ }
+{
+    match crossing {
+        Crossing::Nothing => false,
+        Crossing::Up => true,
+        Crossing::Down => true,
+        Crossing::On => false,
+    }
+}
+
+// A parity with one more edge. No way through the code hangs on the edge, since no processor foresees how it counts.
 fn turned_over(odd: bool, crossing: Crossing) -> bool
     ensures { λ r. ⌜ r ≡ crossedOnce odd crossing ⌝ }
 {
-    match crossing {
-        Crossing::Nothing => odd,
-        Crossing::Up => !odd,
-        Crossing::Down => !odd,
-        Crossing::On => odd,
-    }
+    odd != is_crossed(crossing)
 }
 
 // Counts edge e.

@@ -1,15 +1,15 @@
 -- Closed boxes are what their names say: two that meet share a point and the other way round, the union is the smallest box that
 -- holds both, and the empty box holds nothing, adds nothing and meets no box in range. Assumes nothing.
-use mathlib.Core.Path.{_≡_, ap}
+use mathlib.Core.Path.{_≡_, sym, _∙_, ap}
 use mathlib.Core.Bool.{true, false, _&&_}
 use Prim.Native.Nat.{_^_}
 use lib.IntN.{ℤ, pos, negℤ}
-use lib.Signed.{leZ, _≤ℤ_, _<ℤ_}
+use lib.Signed.{leZ, ltZ, _≤ℤ_, _<ℤ_}
 use mir.Syntax.{w64}
 use mir.Val.{SFits}
 use Rattle.integers.proofs.Order.{zarith, ≤ℤ-refl, ≤ℤ-trans, ≤ℤ-antisym, mag-parts}
 use Rattle.integers.proofs.Signs.{min-parts, max-parts, min-least, max-greatest, min-right, max-right, min-assoc, max-assoc}
-use Rattle.integers.proofs.Tests.{and-true, le-true, le-false, true-le, not-both}
+use Rattle.integers.proofs.Tests.{and-true, and-none, le-true, le-false, true-lt, true-le, not-both}
 use Rattle.geom.specs.declared.Point.{Point}
 use Rattle.geom.specs.declared.Rect.{Rect}
 use Rattle.geom.specs.Boxes.{lesserOf, greaterOf, rectOf, emptyRect, unionOf, meets, holdsPoint, holdsRect}
@@ -160,3 +160,10 @@ empty-union r ax ay bx by =
       min = record { x = min-right _ (r .min .x) (fits-below (r .min .x) ax) i; y = min-right _ (r .min .y) (fits-below (r .min .y) ay) i };
       max = record { x = max-right _ (r .max .x) (fits-above (r .max .x) bx) i; y = max-right _ (r .max .y) (fits-above (r .max .y) by) i };
     }
+
+-- a box that ends below the point does not hold it
+pub not-below : (r : Rect) (p : Point) → ltZ (r .max .y) (p .y) ≡ true → false ≡ holdsPoint r p
+not-below r p e =
+    sym ((λ i. (leZ (r .min .x) (p .x) && leZ (p .x) (r .max .x)) && (leZ (r .min .y) (p .y) && le-false (p .y) (r .max .y) (true-lt (r .max .y) (p .y) e) i))
+    ∙ ap (λ b. (leZ (r .min .x) (p .x) && leZ (p .x) (r .max .x)) && b) (and-none (leZ (r .min .y) (p .y)))
+    ∙ and-none (leZ (r .min .x) (p .x) && leZ (p .x) (r .max .x)))

@@ -1,5 +1,6 @@
 // Points and closed boxes on the integer grid (src/geom.rs; document 01, item 1).
 ghost use mathlib.Core.Path.{_≡_};
+ghost use lib.Signed.{ltZ};
 ghost use Rattle.geom.specs.Range.{inRange, inDoubledRange};
 ghost use Rattle.geom.specs.Boxes.{emptyRect, lesserOf, greaterOf, rectOf, unionOf, meets, holdsPoint, holdsRect};
 use integers::max;
@@ -109,17 +110,34 @@ impl Rect {
             & ((self.min.y <= other.max.y) & (other.min.y <= self.max.y))
     }
 
-    /// Whether the point lies in the closed box.
+    /// Whether the point lies in the closed box. Most points that are asked lie above it, and one test tells them.
     pub fn contains_point(self, p: Point) -> bool
         ensures { λ r. ⌜ r ≡ holdsPoint self p ⌝ }
     {
-        ((self.min.x <= p.x) & (p.x <= self.max.x)) & ((self.min.y <= p.y) & (p.y <= self.max.y))
+        if ends_below(self, p) {
+            return false;
+        }
+        holds(self, p)
     }
 
     /// Whether both corners of the other box lie in this one.
     pub fn contains_rect(self, other: Rect) -> bool
         ensures { λ r. ⌜ r ≡ holdsRect self other ⌝ }
     {
-        self.contains_point(other.min) & self.contains_point(other.max)
+        holds(self, other.min) & holds(self, other.max)
     }
+}
+
+// Whether all of the box lies below the point.
+fn ends_below(r: Rect, p: Point) -> bool
+    ensures { λ b. ⌜ b ≡ ltZ (r .max .y) (p .y) ⌝ }
+{
+    r.max.y < p.y
+}
+
+// Whether the point lies in the closed box, by all four tests at once.
+fn holds(r: Rect, p: Point) -> bool
+    ensures { λ b. ⌜ b ≡ holdsPoint r p ⌝ }
+{
+    ((r.min.x <= p.x) & (p.x <= r.max.x)) & ((r.min.y <= p.y) & (p.y <= r.max.y))
 }

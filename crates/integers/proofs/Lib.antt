@@ -9,4 +9,5 @@ pub mod NoWrap
 pub mod Bits
 pub mod Halves
 pub mod Words
+pub mod Borrows
 mod Caught

@@ -2,7 +2,7 @@
 -- `raw w ρ e` is what the last operation of `e` gives before it is stored, `mev w ρ e` what is read back. Where all sizes fit, both are `eval ρ e`.
 use mathlib.Core.Path.{_≡_, refl, sym, _∙_, ap, ap₂, subst}
 use mathlib.Core.List.{List}
-use mathlib.Core.Bool.{Bool, true, false, _&&_}
+use mathlib.Core.Bool.{Bool, _&&_}
 use Prim.Native.Nat.{ℕ, _^_}
 use lib.Dec.{T, ltb}
 use lib.IntN.{ℤ, negℤ, _+ℤ_, _-ℤ_, _*ℤ_}

@@ -1,17 +1,17 @@
 -- The size of an expression, by computing: bounds of its variables' sizes bound it, and so show that it fits a signed type.
 -- Assumes nothing.
-use mathlib.Core.Path.{_≡_}
+use mathlib.Core.Path.{_≡_, refl}
 use mathlib.Core.List.{List, [], _∷_}
 use Prim.Native.Nat.{ℕ, zero, suc, _+_, _*_, _≤_, _^_, zero-le}
 use native.Mathlib.Nat.{mul-le-mul, le-trans, lt-of-le-of-lt}
 use native.Mathlib.Omega.{arith}
 use lib.Dec.{T, ltb, ltb→lt}
-use lib.IntN.{ℤ, pos, negsuc, natAbs, _+ℤ_, _-ℤ_}
+use lib.IntN.{ℤ, pos, negsuc, negℤ, natAbs, _+ℤ_, _-ℤ_, _*ℤ_}
 use lib.Signed.{mag}
 use mir.Syntax.{Width}
 use mir.Val.{SFits, hbits}
 use Rattle.integers.proofs.Differences.{up, dn}
-use Rattle.integers.proofs.Order.{abs-parts}
+use Rattle.integers.proofs.Order.{zarith, sub-parts, abs-parts, thin}
 use Rattle.integers.proofs.Polynomials.{Expr, var, con, neg, _:+_, _:-_, _:*_, at, eval}
 use Rattle.integers.proofs.Linear.{two, lin}
 
@@ -68,3 +68,21 @@ abs-add x y = abs-size (x ∷ y ∷ []) (natAbs x ∷ natAbs y ∷ []) (var 0 :+
 
 pub abs-sub : (x y : ℤ) → natAbs (x -ℤ y) ≤ natAbs x + natAbs y
 abs-sub x y = abs-size (x ∷ y ∷ []) (natAbs x ∷ natAbs y ∷ []) (var 0 :- var 1) (omega arith, (omega arith, tt))
+
+pub abs-flip : (x y : ℤ) → natAbs (x -ℤ y) ≡ natAbs (y -ℤ x)
+abs-flip x y = omega (zarith, sub-parts x y, sub-parts y x, abs-parts (x -ℤ y), abs-parts (y -ℤ x), thin (x -ℤ y), thin (y -ℤ x))
+
+-- numbers of two signs lie as far apart as their sizes add up to
+pub abs-apart : (m n : ℕ) → natAbs (pos m -ℤ negsuc n) ≡ m + suc n
+abs-apart m n = omega (zarith, sub-parts (pos m) (negsuc n), abs-parts (pos m -ℤ negsuc n), thin (pos m -ℤ negsuc n))
+
+-- ---- products
+abs-negated : (n : ℕ) → natAbs (negℤ (pos n)) ≡ n
+abs-negated zero = refl
+abs-negated (suc n) = refl
+
+pub abs-mul : (x y : ℤ) → natAbs (x *ℤ y) ≡ natAbs x * natAbs y
+abs-mul (pos m) (pos n) = refl
+abs-mul (pos m) (negsuc n) = abs-negated (m * suc n)
+abs-mul (negsuc m) (pos n) = abs-negated (suc m * n)
+abs-mul (negsuc m) (negsuc n) = refl

@@ -1,12 +1,13 @@
 // Exact integers: the leaves that touch 64-bit words. Everything above takes and returns their values.
 ghost use mathlib.Core.Path.{_≡_};
-ghost use Prim.Native.Nat.{_*_, _^_};
-ghost use lib.Dec.{eqb};
-ghost use lib.IntN.{pos, _+ℤ_, _-ℤ_};
+ghost use mathlib.Core.Bool.{cond};
+ghost use Prim.Native.Nat.{_+_, _*_, _^_, _<_};
+ghost use lib.IntN.{pos, natAbs, _+ℤ_, _-ℤ_, _*ℤ_};
 ghost use Rattle.integers.specs.Extremes.{minZ, maxZ};
 ghost use Rattle.integers.specs.Halves.{floorHalf, ceilingHalf};
 ghost use Rattle.integers.specs.Signs.{signOf};
-ghost use Rattle.integers.specs.Words.{signedOf, sizeOf, wideValueOf, IsProduct};
+ghost use Rattle.integers.specs.Words.{bit, valueOf, sizeOf, wideValueOf, wordPair, topBit};
+use std::num::wrapping_sub_u64;
 
 /// The sign of an integer.
 pub enum Sign {
@@ -15,10 +16,11 @@ pub enum Sign {
     Positive,
 }
 
-/// A sign and a size of one word. A size of 0 is 0 under either sign.
+/// A signed number of one word and a borrow: the word, less 2^64 where the word above it was borrowed from. So no number has two forms, and
+/// the negative ones are those that borrowed.
 pub struct Signed {
-    pub negative: bool,
-    pub size: u64,
+    pub borrow: bool,
+    pub word: u64,
 }
 
 /// A size of two words: hi · 2^64 + lo.
@@ -27,10 +29,10 @@ pub struct Wide {
     pub lo: u64,
 }
 
-/// A sign and a size of two words. A size of 0 is 0 under either sign.
+/// A signed number of two words and a borrow: hi · 2^64 + lo, less 2^128 where the word above them was borrowed from.
 pub struct SignedWide {
-    pub negative: bool,
-    pub size: Wide,
+    pub borrow: bool,
+    pub words: Wide,
 }
 
 /// The lesser of two numbers.
@@ -72,27 +74,36 @@ fn above_least(z: i64) -> u64
     }
 }
 
-/// The exact difference of any two numbers, whose size may take all 64 bits.
-pub fn difference(a: i64, b: i64) -> Signed
-    ensures { λ r. ⌜ r ≡ signedOf (a -ℤ b) ⌝ }
+// 1 where the flag is set, else 0.
+fn bit_of(flag: bool) -> u64
+    ensures { λ r. ⌜ r ≡ bit flag ⌝ }
 {
-    let p = above_least(a);
-    let q = above_least(b);
-    if p < q {
-        Signed {
-            negative: true,
-            size: q - p,
-        }
-    } else {
-        Signed {
-            negative: false,
-            size: p - q,
-        }
+    if flag { 1 } else { 0 }
+}
+
+// p - q, less one where the word below borrowed.
+fn subtract_word(p: u64, q: u64, borrow: bool) -> Signed
+    ensures { λ r. ⌜ r .word + (q + bit borrow) ≡ p + bit (r .borrow) * 2 ^ 64 ⌝ }
+{
+    let b = bit_of(borrow);
+    let d = wrapping_sub_u64(p, q);
+    let e = wrapping_sub_u64(d, b);
+    Signed {
+        borrow: (p < q) | (d < b),
+        word: e,
     }
 }
 
-// The exact product of two sizes, by columns of 32 bits.
-fn product_by_columns(u: u64, v: u64) -> Wide
+/// The exact difference of any two numbers.
+pub fn difference(a: i64, b: i64) -> Signed
+    ensures { λ r. ⌜ valueOf r ≡ a -ℤ b ⌝ }
+{
+    subtract_word(above_least(a), above_least(b), false)
+}
+
+/// The exact product of two sizes, by columns of 32 bits. The low word is added up apart from what the high word takes: in this form it
+/// is compiled to one multiplication.
+pub fn product(u: u64, v: u64) -> Wide
     ensures { λ r. ⌜ sizeOf r ≡ u * v ⌝ }
 {
     let u1 = u / 4294967296;
@@ -100,83 +111,93 @@ fn product_by_columns(u: u64, v: u64) -> Wide
     let v1 = v / 4294967296;
     let v0 = v % 4294967296;
     let low = u0 * v0;
-    let middle = u1 * v0 + low / 4294967296;
-    let carried = u0 * v1 + middle % 4294967296;
+    let left = u1 * v0;
+    let right = u0 * v1;
+    let middle = left + low / 4294967296;
+    let carried = right + middle % 4294967296;
+    let cross = left % 4294967296 + right % 4294967296 + low / 4294967296;
     Wide {
         hi: u1 * v1 + middle / 4294967296 + carried / 4294967296,
-        lo: carried % 4294967296 * 4294967296 + low % 4294967296,
+        lo: cross % 4294967296 * 4294967296 + low % 4294967296,
     }
 }
 
-/// The exact product of two sizes: one multiplication where both are below 2^32, as the sizes of most plans are.
-pub fn product(u: u64, v: u64) -> Wide
-    ensures { λ r. ⌜ sizeOf r ≡ u * v ⌝ }
+// The word where the flag is set, else 0.
+fn word_if(flag: bool, word: u64) -> u64
+    ensures { λ r. ⌜ r ≡ cond flag word 0 ⌝ }
 {
-    if u < 4294967296 {
-        if v < 4294967296 {
-            return Wide { hi: 0, lo: u * v };
-        }
-    }
-    product_by_columns(u, v)
+    if flag { word } else { 0 }
 }
 
-/// The exact product of two signed numbers.
+/// The exact product of two signed numbers, where it is less than 2^128 in size. Where a number borrowed, its word is 2^64 more than the
+/// number, and the product of the words has the other word too much in its high word: there it is taken off. Borrows choose what is taken
+/// off, by conditional moves, and no branch hangs on them: no processor would foresee it.
 pub fn signed_product(a: Signed, b: Signed) -> SignedWide
-    ensures { λ r. ⌜ IsProduct a b r ⌝ }
+    requires { ⌜ natAbs (valueOf a *ℤ valueOf b) < wordPair ⌝ }
+    ensures { λ r. ⌜ wideValueOf r ≡ valueOf a *ℤ valueOf b ⌝ }
 {
-    let size = product(a.size, b.size);
+    let words = product(a.word, b.word);
+    let once = subtract_word(words.hi, word_if(a.borrow, b.word), false);
+    let twice = subtract_word(once.word, word_if(b.borrow, a.word), false);
     SignedWide {
-        negative: a.negative != b.negative,
-        size: size,
+        borrow: (once.borrow != twice.borrow) != (a.borrow & b.borrow),
+        words: Wide {
+            hi: twice.word,
+            lo: words.lo,
+        },
     }
 }
 
-// The sign of p - q.
-fn compare_sizes(p: Wide, q: Wide) -> Sign
-    ensures { λ r. ⌜ r ≡ signOf (pos (sizeOf p) -ℤ pos (sizeOf q)) ⌝ }
+/// The exact difference of any two sizes: the low words first, then the high ones with what the low ones borrowed.
+pub fn subtract(p: Wide, q: Wide) -> SignedWide
+    ensures { λ r. ⌜ wideValueOf r ≡ pos (sizeOf p) -ℤ pos (sizeOf q) ⌝ }
 {
-    if p.hi < q.hi {
-        return Sign::Negative;
+    let low = subtract_word(p.lo, q.lo, false);
+    let high = subtract_word(p.hi, q.hi, low.borrow);
+    SignedWide {
+        borrow: high.borrow,
+        words: Wide {
+            hi: high.word,
+            lo: low.word,
+        },
     }
-    if q.hi < p.hi {
-        return Sign::Positive;
-    }
-    if p.lo < q.lo {
-        return Sign::Negative;
-    }
-    if q.lo < p.lo {
-        return Sign::Positive;
-    }
-    Sign::Zero
 }
 
-// Whether a size is 0.
-fn is_zero(w: Wide) -> bool
-    ensures { λ r. ⌜ r ≡ eqb (sizeOf w) 0 ⌝ }
+/// The exact difference of two signed numbers, where it is less than 2^128 in size: their words are subtracted, and of what each of the
+/// two borrowed and what the subtraction borrows one borrow is left.
+pub fn signed_difference(p: SignedWide, q: SignedWide) -> SignedWide
+    requires { ⌜ natAbs (wideValueOf p -ℤ wideValueOf q) < wordPair ⌝ }
+    ensures { λ r. ⌜ wideValueOf r ≡ wideValueOf p -ℤ wideValueOf q ⌝ }
 {
-    (w.hi == 0) & (w.lo == 0)
+    let p_words = p.words;
+    let q_words = q.words;
+    let d = subtract(p_words, q_words);
+    let words = d.words;
+    SignedWide {
+        borrow: (p.borrow != d.borrow) != q.borrow,
+        words: words,
+    }
 }
 
-/// The sign of p - q.
-pub fn compare(p: SignedWide, q: SignedWide) -> Sign
-    ensures { λ r. ⌜ r ≡ signOf (wideValueOf p -ℤ wideValueOf q) ⌝ }
+/// The top bit of two words. Of a number of less than 2^127 in size it is the borrow.
+pub fn top_bit(w: Wide) -> bool
+    ensures { λ r. ⌜ r ≡ topBit w ⌝ }
 {
-    let p_negative = p.negative;
-    let q_negative = q.negative;
-    if p_negative {
-        if q_negative {
-            return compare_sizes(q.size, p.size);
-        }
-        if is_zero(p.size) & is_zero(q.size) {
-            return Sign::Zero;
-        }
+    9223372036854775808 <= w.hi
+}
+
+/// The sign of a number, read off it: negative where it borrowed, else zero where both words are.
+pub fn sign_of(d: SignedWide) -> Sign
+    ensures { λ r. ⌜ r ≡ signOf (wideValueOf d) ⌝ }
+{
+    let hi = d.words.hi;
+    let lo = d.words.lo;
+    let borrow = d.borrow;
+    if borrow {
         return Sign::Negative;
     }
-    if q_negative {
-        if is_zero(p.size) & is_zero(q.size) {
-            return Sign::Zero;
-        }
-        return Sign::Positive;
+    if (hi == 0) & (lo == 0) {
+        return Sign::Zero;
     }
-    compare_sizes(p.size, q.size)
+    Sign::Positive
 }

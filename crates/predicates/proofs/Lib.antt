@@ -1,1 +1,3 @@
 pub mod Segments
+pub mod TurnSizes
+mod Caught

@@ -2,17 +2,13 @@
 ghost use mathlib.Core.Path.{_≡_};
 ghost use lib.IntN.{_-ℤ_};
 ghost use lib.Signed.{leZ};
-ghost use Rattle.integers.specs.Words.{valueOf, wideValueOf};
+ghost use Rattle.integers.specs.Words.{valueOf};
 ghost use Rattle.rules.specs.Rays.{distance, nearer as nearerOf, rayOf};
 ghost use Rattle.rays.specs.Doubles.{nearDoubledRect};
 use crate::doubles::doubled_rect;
 use geom::Point;
 use geom::Rect;
-use integers::Sign;
 use integers::Signed;
-use integers::SignedWide;
-use integers::Wide;
-use integers::compare;
 use integers::difference;
 use rules::Ray;
 
@@ -42,25 +38,17 @@ fn distance_to(ray: Ray, root: Rect, p: Point) -> Signed
     }
 }
 
-// The same number with a size of two words.
-fn widened(d: Signed) -> SignedWide
-    ensures { λ r. ⌜ wideValueOf r ≡ valueOf d ⌝ }
-{
-    SignedWide {
-        negative: d.negative,
-        size: Wide { hi: 0, lo: d.size },
-    }
-}
-
-// Whether the first of two distances is no greater.
+// Whether the first of two distances is no greater: of two that borrowed alike the words decide, and else the one that borrowed is less.
 fn no_farther(d: Signed, e: Signed) -> bool
     ensures { λ r. ⌜ r ≡ leZ (valueOf d) (valueOf e) ⌝ }
 {
-    match compare(widened(d), widened(e)) {
-        Sign::Negative => true,
-        Sign::Zero => true,
-        Sign::Positive => false,
+    let d_word = d.word;
+    let e_word = e.word;
+    let d_borrow = d.borrow;
+    if d_borrow == e.borrow {
+        return d_word <= e_word;
     }
+    d_borrow
 }
 
 // The ray with the lesser distance, the first in a tie.

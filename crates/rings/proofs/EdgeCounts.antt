@@ -10,7 +10,7 @@ use Rattle.integers.specs.declared.Sign.the-variants.{Negative, Zero, Positive}
 use Rattle.integers.specs.Signs.{signOf, isNegative, isPositive}
 use Rattle.integers.proofs.Order.{zarith}
 use Rattle.integers.proofs.Signs.{le-sign}
-use Rattle.integers.proofs.Tests.{lt-true, lt-false}
+use Rattle.integers.proofs.Tests.{true-T, false-T, lt-true, lt-false}
 use Rattle.geom.specs.declared.Point.{Point}
 use Rattle.predicates.specs.Turn.{orientation, onSegment}
 use Rattle.rules.specs.Edges.{edgeWinding}
@@ -19,7 +19,7 @@ use Rattle.rules.proofs.RaySigns.{windingBy, onBy, possible, all5, all5-at}
 use Rattle.rules.proofs.RayEdges.{winding-by, on-by, turn-possible}
 use Rattle.rings.specs.declared.crossings.Crossing.{Crossing}
 use Rattle.rings.specs.declared.crossings.Crossing.the-variants.{Nothing, Up, Down, On}
-use Rattle.rings.specs.Crossings.{signed, crossingOf, isOn, weightOf, upwardOf, downwardOf}
+use Rattle.rings.specs.Crossings.{signed, crossingOf, isOn, isUp, isDown, weightOf, upwardOf, downwardOf}
 
 -- as the code finds it
 abbrev pub found : Bool → Bool → Bool → Sign → Crossing
@@ -122,3 +122,22 @@ weight-small Nothing = lit≤ tt
 weight-small Up = lit≤ tt
 weight-small Down = lit≤ tt
 weight-small On = lit≤ tt
+
+-- ---- what an edge adds, by two tests
+pub weight-up : (k : Crossing) → isUp k ≡ true → weightOf k ≡ pos 1
+weight-up Nothing e = absurd (true-T e)
+weight-up Up e = refl
+weight-up Down e = absurd (true-T e)
+weight-up On e = absurd (true-T e)
+
+pub weight-down : (k : Crossing) → isDown k ≡ true → weightOf k ≡ negsuc 0
+weight-down Nothing e = absurd (true-T e)
+weight-down Up e = absurd (true-T e)
+weight-down Down e = refl
+weight-down On e = absurd (true-T e)
+
+pub weight-none : (k : Crossing) → isUp k ≡ false → isDown k ≡ false → weightOf k ≡ pos 0
+weight-none Nothing e f = refl
+weight-none Up e f = absurd (false-T e)
+weight-none Down e f = absurd (false-T f)
+weight-none On e f = refl

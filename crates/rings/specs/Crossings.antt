@@ -29,6 +29,18 @@ isOn Up = false
 isOn Down = false
 isOn On = true
 
+abbrev pub isUp : Crossing → Bool
+isUp Nothing = false
+isUp Up = true
+isUp Down = false
+isUp On = false
+
+abbrev pub isDown : Crossing → Bool
+isDown Nothing = false
+isDown Up = false
+isDown Down = true
+isDown On = false
+
 abbrev pub weightOf : Crossing → ℤ
 weightOf Nothing = pos 0
 weightOf Up = pos 1

@@ -4,7 +4,7 @@ ghost use Prim.Native.Nat.{_+_, _<_, _^_};
 ghost use lib.IntN.{natAbs, _+ℤ_};
 ghost use lib.Signed.{leZ};
 ghost use Rattle.rules.specs.Replies.{isNonzero};
-ghost use Rattle.rings.specs.Crossings.{crossingOf, upwardOf, downwardOf, isOn, weightOf};
+ghost use Rattle.rings.specs.Crossings.{crossingOf, upwardOf, downwardOf, isOn, isUp, isDown, weightOf};
 use geom::Point;
 use integers::Sign;
 use predicates::on_segment;
@@ -78,17 +78,47 @@ pub fn is_on(crossing: Crossing) -> bool
     }
 }
 
+// Whether the edge counts one more.
+fn is_up(crossing: Crossing) -> bool
+    ensures { λ r. ⌜ r ≡ isUp crossing ⌝ }
+{
+    match crossing {
+        Crossing::Nothing => false,
+        Crossing::Up => true,
+        Crossing::Down => false,
+        Crossing::On => false,
+    }
+}
+
+// Whether the edge counts one less.
+fn is_down(crossing: Crossing) -> bool
+    ensures { λ r. ⌜ r ≡ isDown crossing ⌝ }
+{
+    match crossing {
+        Crossing::Nothing => false,
+        Crossing::Up => false,
+        Crossing::Down => true,
+        Crossing::On => false,
+    }
+}
+
+// What the edge adds to the winding number. Two tests are compiled to conditional moves, where one `match` of three outcomes would be
+// compiled to a jump that no processor foresees.
+fn weight_of(crossing: Crossing) -> i64
+    ensures { λ r. ⌜ r ≡ weightOf crossing ⌝ }
+{
+    if is_up(crossing) {
+        return 1;
+    }
+    if is_down(crossing) { -1 } else { 0 }
+}
+
 /// The winding number with one more edge. No plan has so many edges that it would leave 64 bits.
 pub fn wound(winding: i64, crossing: Crossing) -> i64
     requires { ⌜ natAbs winding + 1 < 2 ^ 63 ⌝ }
     ensures { λ r. ⌜ r ≡ winding +ℤ weightOf crossing ⌝ }
 {
-    match crossing {
-        Crossing::Nothing => winding,
-        Crossing::Up => winding + 1,
-        Crossing::Down => winding - 1,
-        Crossing::On => winding,
-    }
+    winding + weight_of(crossing)
 }
 
 /// Whether a winding number is not 0.

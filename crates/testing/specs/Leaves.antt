@@ -1,13 +1,12 @@
 -- The leaves of one, two and three numbers.
 use mathlib.Core.Path.{_≡_}
-use Prim.Native.Nat.{_*_}
-use lib.IntN.{ℤ, pos, negsuc, natAbs, _-ℤ_}
+use lib.IntN.{ℤ, pos, negsuc, _-ℤ_}
 use Rattle.integers.specs.declared.Sign.{Sign}
 use Rattle.integers.specs.declared.Sign.the-variants.{Negative, Zero, Positive}
 use Rattle.integers.specs.Extremes.{minZ, maxZ}
 use Rattle.integers.specs.Halves.{floorHalf, ceilingHalf}
 use Rattle.integers.specs.Signs.{signOf}
-use Rattle.integers.specs.Words.{signedOf, sizeOf}
+use Rattle.integers.specs.Words.{valueOf, wideValueOf}
 use Rattle.geom.specs.declared.Point.{Point}
 use Rattle.geom.specs.Boxes.{emptyRect, rectOf, unionOf, meets, holdsPoint, holdsRect}
 use Rattle.geom.specs.Range.{inRange, inDoubledRange}
@@ -15,16 +14,15 @@ use Rattle.predicates.specs.Turn.{orientation, onSegment}
 use Rattle.testing.specs.declared.leaves.Halves.{Halves}
 use Rattle.testing.specs.declared.leaves.Pair.{Pair}
 use Rattle.testing.specs.declared.leaves.Turn.{Turn}
+use Rattle.testing.specs.declared.leaves.Words.{Words}
 
 abbrev pub halvesOf : ℤ → Halves
 halvesOf z = record { floor = floorHalf z; ceiling = ceilingHalf z; «in_range» = inRange (record { x = z; y = pos 0 }); «in_doubled_range» = inDoubledRange (record { x = pos 0; y = z }) }
 
--- how far they are apart, under the sign of the difference, and the product of their distances from 1 in two words
 pub record PairOf (a b : ℤ) (r : Pair) : Type 0 where
   pub least : r .least ≡ minZ a b
   pub greatest : r .greatest ≡ maxZ a b
-  pub apart : record { negative = r .negative; size = r .size } ≡ signedOf (a -ℤ b)
-  pub product : sizeOf (record { hi = r .high; lo = r .low }) ≡ natAbs (a -ℤ pos 1) * natAbs (b -ℤ pos 1)
+  pub difference : valueOf (record { borrow = r .borrow; word = r .word }) ≡ a -ℤ b
 
 abbrev pub signNumber : Sign → ℤ
 signNumber Negative = negsuc 0
@@ -41,6 +39,6 @@ turnAt p q r =
       holds = holdsRect (unionOf (rectOf p q) emptyRect) (rectOf p r);
     }
 
--- the points (a, b), (b, c), (c, a)
-abbrev pub turnOf : ℤ → ℤ → ℤ → Turn
-turnOf a b c = turnAt (record { x = a; y = b }) (record { x = b; y = c }) (record { x = c; y = a })
+-- what two words and their borrow stand for (document 02, R-2)
+abbrev pub wordsValue : Words → ℤ
+wordsValue w = wideValueOf (record { borrow = w .borrow; words = record { hi = w .high; lo = w .low } })

@@ -1,17 +1,24 @@
 // The leaves on which every reply rests and whose faults no reply would show.
 ghost use mathlib.Core.Path.{_≡_};
-ghost use Rattle.testing.specs.Leaves.{halvesOf, PairOf, signNumber, turnAt, turnOf};
+ghost use lib.IntN.{pos, _-ℤ_, _*ℤ_};
+ghost use Rattle.integers.specs.Words.{sizeOf, wideValueOf};
+ghost use Rattle.predicates.specs.Turn.{orientation};
+ghost use Rattle.testing.specs.Leaves.{halvesOf, PairOf, signNumber, wordsValue, turnAt};
 use geom::Point;
 use geom::Rect;
 use integers::Sign;
+use integers::SignedWide;
+use integers::Wide;
 use integers::ceiling_half;
 use integers::difference;
 use integers::floor_half;
 use integers::max;
 use integers::min;
-use integers::product;
+use integers::signed_product;
+use integers::subtract;
 use predicates::on_segment;
 use predicates::orient;
+use predicates::turn_words;
 
 /// A number's halves, rounded down and up, and whether it is in range as a coordinate and as a doubled one.
 #[repr(C)]
@@ -22,14 +29,19 @@ pub struct Halves {
     pub in_doubled_range: bool,
 }
 
-/// The lesser and the greater of two numbers, whether the first is less, how far they are apart, and the product of their distances
-/// from 1 in two words.
+/// The lesser and the greater of two numbers, and their difference: its word, and whether the word above was borrowed from.
 #[repr(C)]
 pub struct Pair {
     pub least: i64,
     pub greatest: i64,
-    pub negative: bool,
-    pub size: u64,
+    pub borrow: bool,
+    pub word: u64,
+}
+
+/// A number in two words, and whether the word above them was borrowed from.
+#[repr(C)]
+pub struct Words {
+    pub borrow: bool,
     pub high: u64,
     pub low: u64,
 }
@@ -64,15 +76,30 @@ pub extern "C" fn testing_pair(a: i64, b: i64) -> Pair
     ensures { λ r. ⌜ PairOf a b r ⌝ }
 {
     let d = difference(a, b);
-    let p = product(difference(a, 1).size, difference(b, 1).size);
     Pair {
         least: min(a, b),
         greatest: max(a, b),
-        negative: d.negative,
-        size: d.size,
-        high: p.hi,
-        low: p.lo,
+        borrow: d.borrow,
+        word: d.word,
     }
+}
+
+fn words_of(d: SignedWide) -> Words
+    ensures { λ r. ⌜ wordsValue r ≡ wideValueOf d ⌝ }
+{
+    Words {
+        borrow: d.borrow,
+        high: d.words.hi,
+        low: d.words.lo,
+    }
+}
+
+/// The exact product of the differences a - b and c - d.
+#[no_mangle]
+pub extern "C" fn testing_product(a: i64, b: i64, c: i64, d: i64) -> Words
+    ensures { λ r. ⌜ wordsValue r ≡ (a -ℤ b) *ℤ (c -ℤ d) ⌝ }
+{
+    words_of(signed_product(difference(a, b), difference(c, d)))
 }
 
 fn sign_number(sign: Sign) -> i64
@@ -98,14 +125,36 @@ fn turn_at(p: Point, q: Point, r: Point) -> Turn
     }
 }
 
-/// Three numbers as three points (a, b), (b, c), (c, a).
+/// Three points (ax, ay), (bx, by), (cx, cy).
 #[no_mangle]
-pub extern "C" fn testing_turn(a: i64, b: i64, c: i64) -> Turn
-    ensures { λ r. ⌜ r ≡ turnOf a b c ⌝ }
+pub extern "C" fn testing_turn(ax: i64, ay: i64, bx: i64, by: i64, cx: i64, cy: i64) -> Turn
+    ensures { λ r. ⌜ r ≡ turnAt (record { x = ax; y = ay }) (record { x = bx; y = by }) (record { x = cx; y = cy }) ⌝ }
 {
     turn_at(
-        Point { x: a, y: b },
-        Point { x: b, y: c },
-        Point { x: c, y: a },
+        Point { x: ax, y: ay },
+        Point { x: bx, y: by },
+        Point { x: cx, y: cy },
     )
+}
+
+/// The exact turn at the same points.
+#[no_mangle]
+pub extern "C" fn testing_turn_words(ax: i64, ay: i64, bx: i64, by: i64, cx: i64, cy: i64) -> Words
+    ensures { λ r. ⌜ wordsValue r ≡ orientation (record { x = ax; y = ay }) (record { x = bx; y = by }) (record { x = cx; y = cy }) ⌝ }
+{
+    words_of(turn_words(ax, ay, bx, by, cx, cy))
+}
+
+/// The exact difference of two sizes of two words each.
+#[no_mangle]
+pub extern "C" fn testing_subtract(high: u64, low: u64, less_high: u64, less_low: u64) -> Words
+    ensures { λ r. ⌜ wordsValue r ≡ pos (sizeOf (record { hi = high; lo = low })) -ℤ pos (sizeOf (record { hi = «less_high»; lo = «less_low» })) ⌝ }
+{
+    words_of(subtract(
+        Wide { hi: high, lo: low },
+        Wide {
+            hi: less_high,
+            lo: less_low,
+        },
+    ))
 }

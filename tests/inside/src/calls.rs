@@ -51,14 +51,21 @@ pub struct Halves {
     pub in_doubled_range: bool,
 }
 
-/// Two numbers: the lesser, the greater, their difference, and the product of their distances from 1 in two words.
+/// Two numbers: the lesser, the greater, and the word of their difference with its borrow.
 #[repr(C)]
 #[derive(Clone, Copy, Debug, PartialEq, Eq)]
 pub struct Pair {
     pub least: i64,
     pub greatest: i64,
-    pub negative: bool,
-    pub size: u64,
+    pub borrow: bool,
+    pub word: u64,
+}
+
+/// A number in two words, and whether the word above them was borrowed from.
+#[repr(C)]
+#[derive(Clone, Copy, Debug, PartialEq, Eq)]
+pub struct Words {
+    pub borrow: bool,
     pub high: u64,
     pub low: u64,
 }
@@ -252,7 +259,13 @@ unsafe extern "C" {
 
     fn testing_pair(a: i64, b: i64) -> Pair;
 
-    fn testing_turn(a: i64, b: i64, c: i64) -> Turn;
+    fn testing_product(a: i64, b: i64, c: i64, d: i64) -> Words;
+
+    fn testing_turn(ax: i64, ay: i64, bx: i64, by: i64, cx: i64, cy: i64) -> Turn;
+
+    fn testing_turn_words(ax: i64, ay: i64, bx: i64, by: i64, cx: i64, cy: i64) -> Words;
+
+    fn testing_subtract(high: u64, low: u64, less_high: u64, less_low: u64) -> Words;
 }
 
 #[repr(C)]
@@ -462,8 +475,26 @@ pub fn pair(a: i64, b: i64) -> Pair {
     unsafe { testing_pair(a, b) }
 }
 
-/// Three numbers as three points (a, b), (b, c), (c, a).
-pub fn turn(a: i64, b: i64, c: i64) -> Turn {
+/// The exact product of the differences a - b and c - d.
+pub fn product([a, b]: [i64; 2], [c, d]: [i64; 2]) -> Words {
     // SAFETY: numbers alone.
-    unsafe { testing_turn(a, b, c) }
+    unsafe { testing_product(a, b, c, d) }
+}
+
+/// Three points.
+pub fn turn([[ax, ay], [bx, by], [cx, cy]]: [[i64; 2]; 3]) -> Turn {
+    // SAFETY: numbers alone.
+    unsafe { testing_turn(ax, ay, bx, by, cx, cy) }
+}
+
+/// Their exact turn.
+pub fn turn_words([[ax, ay], [bx, by], [cx, cy]]: [[i64; 2]; 3]) -> Words {
+    // SAFETY: numbers alone.
+    unsafe { testing_turn_words(ax, ay, bx, by, cx, cy) }
+}
+
+/// The exact difference of two sizes, each of a high and a low word.
+pub fn subtract([high, low]: [u64; 2], [less_high, less_low]: [u64; 2]) -> Words {
+    // SAFETY: numbers alone.
+    unsafe { testing_subtract(high, low, less_high, less_low) }
 }

@@ -1,10 +1,11 @@
--- `predicates::product_of_differences` meets its contract: the leaves' exact values, of what was read back.
-use mathlib.Core.Path.{_≡_, _∙_, ap}
-use lib.IntN.{_-ℤ_, _*ℤ_}
+-- `predicates::product_of_differences` meets its contract: the product of two exact differences.
+use mathlib.Core.Path.{_≡_, sym, _∙_, subst}
+use Prim.Native.Nat.{_<_}
+use lib.IntN.{natAbs, _-ℤ_, _*ℤ_}
 use borrow.Author.Needs.{needs}
-use Rattle.integers.specs.Words.{valueOf}
+use Rattle.integers.specs.Words.{valueOf, wordPair}
 use Rattle.integers.proofs.Bits.{read₂}
-use Rattle.integers.proofs.Words.{value-signed}
+use Rattle.predicates.proofs.TurnSizes.{product-fits}
 use Rattle.predicates.proofs.product_of_differences.Statement.{statement}
 use Rattle.predicates.proofs.product_of_differences.Tie as tie
 
@@ -14,16 +15,22 @@ difference-requires c κs = search needs
 difference-requires-2 : tie.Need-difference-requires-2
 difference-requires-2 c κs = search needs
 
+module _ (c : tie.After-difference2) where
+  abbrev s : tie.Start
+  s = c .before .before
+
+  exact : valueOf (c .before .difference .result) *ℤ valueOf (c .difference2 .result) ≡ (s .args .a -ℤ s .args .b) *ℤ (s .args .c -ℤ s .args .d)
+  exact =
+      (λ i. c .before .difference .ensures i *ℤ c .difference2 .ensures i)
+      ∙ (λ i. read₂ _-ℤ_ (s .args .a) (s .args .b) (s .fits .a) (s .fits .b) i *ℤ read₂ _-ℤ_ (s .args .c) (s .args .d) (s .fits .c) (s .fits .d) i)
+
 signed-product-requires : tie.Need-signed-product-requires
-signed-product-requires c κs = search needs
+signed-product-requires c κs =
+    let s = c .before .before in
+    subst (λ z. natAbs z < wordPair) (sym (exact c)) (product-fits (s .args .a) (s .args .b) (s .args .c) (s .args .d) (s .fits .a) (s .fits .b) (s .fits .c) (s .fits .d))
 
 returns : tie.Need-returns
-returns c =
-    let s = c .before .before .before in
-    let a = s .args in
-    let first : valueOf (c .before .before .difference .result) ≡ a .a -ℤ a .b = ap valueOf (c .before .before .difference .ensures) ∙ value-signed _ ∙ read₂ _-ℤ_ (a .a) (a .b) (s .fits .a) (s .fits .b) in
-    let second : valueOf (c .before .difference2 .result) ≡ a .c -ℤ a .d = ap valueOf (c .before .difference2 .ensures) ∙ value-signed _ ∙ read₂ _-ℤ_ (a .c) (a .d) (s .fits .c) (s .fits .d) in
-    c .signed-product .ensures .exact ∙ (λ i. first i *ℤ second i)
+returns c = c .signed-product .ensures ∙ exact (c .before)
 
 pub product-of-differences-spec : {M : Type 1} → statement M
 product-of-differences-spec =

@@ -1,10 +1,8 @@
 -- `rays::choice::above_by` meets its contract: the exact difference of what was read back.
-use mathlib.Core.Path.{_∙_, ap}
+use mathlib.Core.Path.{_∙_}
 use lib.IntN.{_-ℤ_}
 use borrow.Author.Needs.{needs}
-use Rattle.integers.specs.Words.{valueOf}
 use Rattle.integers.proofs.Bits.{read₂}
-use Rattle.integers.proofs.Words.{value-signed}
 use Rattle.rays.proofs.choice.above_by.Statement.{statement}
 use Rattle.rays.proofs.choice.above_by.Tie as tie
 
@@ -14,7 +12,7 @@ difference-requires c κs = search needs
 returns : tie.Need-returns
 returns c =
     let s = c .before .before .before .args in
-    ap valueOf (c .difference .ensures) ∙ value-signed _ ∙ read₂ _-ℤ_ (s .a .y) (s .b .y) (record { sfits = c .before .before .struct-told .given .1 .0 .1 }) (record { sfits = c .before .struct-told2 .given .1 .0 .1 })
+    c .difference .ensures ∙ read₂ _-ℤ_ (s .a .y) (s .b .y) (record { sfits = c .before .before .struct-told .given .1 .0 .1 }) (record { sfits = c .before .struct-told2 .given .1 .0 .1 })
 
 pub above-by-spec : {M : Type 1} → statement M
 above-by-spec = tie.close (tie.spec difference-requires returns)
