@@ -23,7 +23,7 @@ pub const MAX_INPUT: usize = 16384;
 const ANSWER_ROOM: usize = 65536;
 
 /// What answering an input comes to.
-#[derive(Drop)]
+#[derive(Clone, Copy)]
 pub enum Outcome {
     /// The answer is in the output, and this is how many bytes it has.
     Written(usize),

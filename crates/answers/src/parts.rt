@@ -6,7 +6,7 @@ use asked::asks;
 use fields::find;
 
 /// Where a line starts, and its number.
-#[derive(Drop)]
+#[derive(Clone, Copy)]
 pub struct Place {
     pub from: usize,
     pub line: usize,

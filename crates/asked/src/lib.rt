@@ -1,4 +1,5 @@
 // What a line after the plan asks (document 01, "Trays to try").
+#![tactic(auto)]
 ghost use Rattle.std.specs.Prelude.{◌≡◌};
 ghost use Rattle.fields.specs.Pieces.{split};
 ghost use Rattle.asked.specs.Queries.{point_of, grid_query, half_query, word_query, query_of, asks};
@@ -7,7 +8,7 @@ use fields::{Number, find, read_number, same};
 use geom::Point;
 
 /// What is asked.
-#[derive(Drop)]
+#[derive(Clone, Copy)]
 pub enum Query {
     /// Where a point of the grid lies.
     OnGrid(Point),
@@ -16,7 +17,7 @@ pub enum Query {
 }
 
 /// What a line after the plan says.
-#[derive(Drop)]
+#[derive(Clone, Copy)]
 pub enum Line {
     /// It asks this.
     Asks(Query),
@@ -25,7 +26,7 @@ pub enum Line {
 }
 
 /// The point that two fields name.
-#[derive(Drop)]
+#[derive(Clone, Copy)]
 pub enum Named {
     /// Both are numbers.
     Is(Point),

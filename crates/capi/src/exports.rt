@@ -22,7 +22,7 @@ use states::{NamedKind, NamedState, StateNumbers, kind_of, numbers_of, state_of}
 /// What preparing answers: the refusal number or 0, the table that refusal 11 names or 0, the number of nodes, and the state (zeros
 /// where it is refused).
 #[repr(C)]
-#[derive(Drop)]
+#[derive(Clone, Copy)]
 pub struct PrepareAnswer {
     pub refusal: usize,
     pub table: usize,
@@ -32,7 +32,7 @@ pub struct PrepareAnswer {
 
 /// What a list of points is answered: the refusal number or 0, 1 where a point is not outside, and the place of the first.
 #[repr(C)]
-#[derive(Drop)]
+#[derive(Clone, Copy)]
 pub struct FirstAnswer {
     pub refusal: usize,
     pub found: usize,

@@ -12,7 +12,7 @@ use states::{NamedState, StateNumbers, numbers_of, state_of};
 /// What a correction answers: 0 where it is accepted, or the refusal number; and the state that goes with the tables from now on, which
 /// a refusal leaves as it was.
 #[repr(C)]
-#[derive(Drop)]
+#[derive(Clone, Copy)]
 pub struct CorrectionAnswer {
     pub refusal: usize,
     pub state: StateNumbers,

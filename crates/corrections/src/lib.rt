@@ -15,7 +15,7 @@ use records::{Latest, latest_record, put_record};
 use rules::{Refusal, State};
 
 /// What a correction answers, and the state that goes with the tables from now on.
-#[derive(Drop)]
+#[derive(Clone, Copy)]
 pub struct Corrected {
     pub answer: Answer,
     pub state: State,

@@ -8,7 +8,7 @@ use model::corner_named;
 use rules::State;
 
 /// The latest undo record.
-#[derive(Drop)]
+#[derive(Clone, Copy)]
 pub(crate) enum Latest {
     /// Its corner, one of the plan's, and its place, in range.
     At(usize, Point),

@@ -9,7 +9,7 @@ use boxes::{edge_box, ring_near};
 use geom::Rect;
 
 /// The axis along which a part is cut.
-#[derive(Drop)]
+#[derive(Clone, Copy)]
 pub enum Axis {
     /// Left and right parts, by x.
     X,

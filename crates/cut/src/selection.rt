@@ -16,7 +16,7 @@ fn swap(values: &mut [usize], i: usize, j: usize)
 }
 
 // The least and the greatest of some numbers.
-#[derive(Drop)]
+#[derive(Clone, Copy)]
 struct Span {
     least: usize,
     greatest: usize,
@@ -43,7 +43,7 @@ fn wider(span: Span, x: usize) -> Span
 }
 
 // The span of a part, and how many numbers were compared to find it.
-#[derive(Drop)]
+#[derive(Clone, Copy)]
 struct Scan {
     span: Span,
     reads: usize,
@@ -73,7 +73,7 @@ fn span_of(values: &[usize], lo: usize, hi: usize) -> Scan
 }
 
 // Where a partition came to an end, and how many numbers it compared.
-#[derive(Drop)]
+#[derive(Clone, Copy)]
 struct Split {
     // The place of the first number above the value.
     place: usize,

@@ -4,7 +4,7 @@ ghost use Rattle.findspot.specs.Inputs.{Came, Holds};
 use libc::STDIN_FILENO;
 
 /// What one read comes to.
-#[derive(Drop)]
+#[derive(Clone, Copy)]
 pub(crate) enum Got {
     /// So many bytes, one or more.
     Bytes(usize),
@@ -15,7 +15,7 @@ pub(crate) enum Got {
 }
 
 /// What reading to the end comes to.
-#[derive(Drop)]
+#[derive(Clone, Copy)]
 pub(crate) enum Input {
     /// The input's bytes, or as many of them as the buffer holds, stand at its start: so many.
     Read(usize),

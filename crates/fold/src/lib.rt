@@ -1,5 +1,6 @@
 // The rules for polygons, lists and trees as a fold over the rings that are met, by rising ring number (document 01, item 4). A ring
 // that is not met is one that the point is outside of, so the work goes by the rings met and not by all that a plan has.
+#![tactic(auto)]
 ghost use Rattle.std.specs.Prelude.{◌≡◌};
 ghost use Rattle.rules.specs.declared.Kind.TheVariants.{Polygons, Tree};
 ghost use Rattle.rules.specs.declared.Location.TheVariants.{Inside};
@@ -11,7 +12,7 @@ use rings::places::{flipped, is_boundary, is_outside, odd_place, stronger, throu
 use rules::{Kind, Location};
 
 /// What is known of a region after some of its rings.
-#[derive(Drop)]
+#[derive(Clone, Copy)]
 pub struct Fold {
     /// A list: the strongest reply of the polygons before the current one.
     pub best: Location,
@@ -26,7 +27,7 @@ pub struct Fold {
 }
 
 // The rings of a polygon.
-#[derive(Drop)]
+#[derive(Clone, Copy)]
 pub(crate) enum Span {
     // the polygon table does not fit
     Nowhere,

@@ -15,7 +15,7 @@ use walk::edges::{Edge, edge_at};
 use walk::{Query, Stop, next_leaf, past_leaf, start};
 
 // How an edge counts.
-#[derive(Drop)]
+#[derive(Clone, Copy)]
 pub(crate) enum Met {
     // the number of its ring, and what it says of the point
     At(usize, Crossing),
@@ -24,7 +24,7 @@ pub(crate) enum Met {
 }
 
 // What comes of an edge, or of the edges of a leaf.
-#[derive(Drop)]
+#[derive(Clone, Copy)]
 pub(crate) enum Noted {
     // counted: which slot belongs to which ring, and the last edge's ring
     To(Layout, usize),
@@ -35,7 +35,7 @@ pub(crate) enum Noted {
 }
 
 // What comes of a walk.
-#[derive(Drop)]
+#[derive(Clone, Copy)]
 pub(crate) enum Collected {
     // Every edge met is counted, and slots belong to rings so.
     Whole(Layout),

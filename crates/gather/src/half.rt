@@ -26,7 +26,7 @@ use walk::edges::{Edge, edge_at};
 use walk::{Query, Stop, next_leaf, past_leaf, start};
 
 // What comes of an edge, or of the edges of a leaf.
-#[derive(Drop)]
+#[derive(Clone, Copy)]
 pub(crate) enum Crossed {
     // the parity with it, and the last edge's ring
     To(bool, usize),
@@ -37,7 +37,7 @@ pub(crate) enum Crossed {
 }
 
 // What comes of a walk.
-#[derive(Drop)]
+#[derive(Clone, Copy)]
 pub(crate) enum Outcome {
     // whether an odd number of edges is crossed
     Parity(bool),

@@ -22,7 +22,7 @@ use rules::{Kind, Location, Ray, Refusal, Reply, State};
 use walk::Query;
 
 // What one walk says of the region.
-#[derive(Drop)]
+#[derive(Clone, Copy)]
 pub(crate) enum Region {
     At(Location),
     // more rings are met than a list holds

@@ -21,7 +21,7 @@ const MOST: i64 = 2305843009213693952;
 const BOUNDARY: i64 = 4611686018427387904;
 
 // Which slot belongs to which ring.
-#[derive(Drop)]
+#[derive(Clone, Copy)]
 pub(crate) enum Layout {
     // Slot k belongs to the ring at place k of a list of rings by rising number, which holds so many.
     Listed(usize),
@@ -30,7 +30,7 @@ pub(crate) enum Layout {
 }
 
 // What comes of one edge more.
-#[derive(Drop)]
+#[derive(Clone, Copy)]
 pub(crate) enum Added {
     // It is counted, and slots belong to rings so.
     To(Layout),

@@ -1,4 +1,5 @@
 // Points and closed boxes on the integer grid (src/geom.rs; document 01, item 1).
+#![tactic(auto)]
 ghost use Rattle.std.specs.Prelude.{◌≡◌};
 ghost use Rattle.std.specs.Int.Signed.{lt_z};
 ghost use Rattle.geom.specs.Range.{in_range, in_doubled_range};
@@ -13,7 +14,7 @@ pub const MAX_COORD: i64 = 1099511627776;
 pub const MAX_DOUBLED: i64 = 2199023255552;
 
 /// A point of the grid or, doubled, of the half-grid.
-#[derive(Drop)]
+#[derive(Clone, Copy)]
 pub struct Point {
     pub x: i64,
     pub y: i64,
@@ -38,7 +39,7 @@ impl Point {
 }
 
 /// A closed box: its least and its greatest corner.
-#[derive(Drop)]
+#[derive(Clone, Copy)]
 pub struct Rect {
     pub min: Point,
     pub max: Point,

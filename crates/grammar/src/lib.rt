@@ -1,4 +1,5 @@
 // Well-Known Text (document 02, R-1): which texts are of it and what they spell; its spaces and numbers read.
+#![tactic(auto)]
 ghost use Rattle.std.specs.Prelude.{◌≡◌, ◌≤◌, length, get_or};
 ghost use Rattle.grammar.specs.Tokens.{Skipped, NextRead};
 
@@ -30,7 +31,7 @@ pub fn byte_at(text: &[u8], at: usize) -> u8
 }
 
 /// A byte of a text, and its place.
-#[derive(Drop)]
+#[derive(Clone, Copy)]
 pub struct NextByte {
     pub at: usize,
     pub byte: u8,

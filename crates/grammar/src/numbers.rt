@@ -6,7 +6,7 @@ ghost use Rattle.grammar.specs.Tokens.{wanting, within, NumberRead};
 use crate::skip_spaces;
 
 /// A number read from a text.
-#[derive(Drop)]
+#[derive(Clone, Copy)]
 pub enum Token {
     /// A number, and the place behind it.
     Number(i64, usize),

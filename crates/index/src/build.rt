@@ -104,7 +104,7 @@ fn cut_node(
 }
 
 /// A hierarchy that was built.
-#[derive(Drop)]
+#[derive(Clone, Copy)]
 pub struct Hierarchy {
     /// How many nodes it has, N(n).
     pub nodes: usize,

@@ -1,4 +1,5 @@
 // The hierarchy of boxes over the edges of a plan (document 01, items 5 and 9; `Index::of_boxes` of src/prepared.rs).
+#![tactic(auto)]
 /// The tables of the hierarchy, built.
 pub mod build;
 /// The number of nodes, N(n).

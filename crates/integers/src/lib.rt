@@ -1,4 +1,5 @@
 // Exact integers: the leaves that touch 64-bit words. Everything above takes and returns their values.
+#![tactic(auto)]
 ghost use Rattle.std.specs.Prelude.{◌≡◌, ◌+◌, ◌*◌, ◌^◌, ◌<◌, pos, ◌+ℤ◌, ◌-ℤ◌, ◌*ℤ◌, if◌then◌else◌, unsigned_abs};
 ghost use Rattle.integers.specs.Extremes.{min_z, max_z};
 ghost use Rattle.integers.specs.Halves.{floor_half, ceiling_half};
@@ -8,7 +9,7 @@ ghost use Rattle.integers.specs.Words.{bit, value_of, size_of, wide_value_of, wo
 use std::num::wrapping_sub_u64;
 
 /// The sign of an integer.
-#[derive(Drop)]
+#[derive(Clone, Copy)]
 pub enum Sign {
     Negative,
     Zero,
@@ -17,21 +18,21 @@ pub enum Sign {
 
 /// A signed number of one word and a borrow: the word, less 2^64 where the word above it was borrowed from. So no number has two forms, and
 /// the negative ones are those that borrowed.
-#[derive(Drop)]
+#[derive(Clone, Copy)]
 pub struct Signed {
     pub borrow: bool,
     pub word: u64,
 }
 
 /// A size of two words: hi · 2^64 + lo.
-#[derive(Drop)]
+#[derive(Clone, Copy)]
 pub struct Wide {
     pub hi: u64,
     pub lo: u64,
 }
 
 /// A signed number of two words and a borrow: hi · 2^64 + lo, less 2^128 where the word above them was borrowed from.
-#[derive(Drop)]
+#[derive(Clone, Copy)]
 pub struct SignedWide {
     pub borrow: bool,
     pub words: Wide,

@@ -8,7 +8,7 @@ use geom::Point;
 use rules::Kind;
 
 /// What a line of a plan's text says.
-#[derive(Drop)]
+#[derive(Clone, Copy)]
 pub enum Record {
     /// `plan`, with `list`, `tree` or neither.
     Header(Kind),

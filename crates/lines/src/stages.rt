@@ -9,7 +9,7 @@ use fields::find;
 use rules::{Kind, is_list};
 
 /// What the lines so far come to: nothing yet, a plan of this size, or the first line that breaks a rule.
-#[derive(Drop)]
+#[derive(Clone, Copy)]
 pub enum Stage {
     /// No line yet.
     Start,

@@ -1,5 +1,6 @@
 // The calls on a prepared plan and their answers, and what of a correction is settled before a table is read (document 01, item 9, "From
 // the state" and "The correction book"). What the calls promise, the correction book and demand 3 stand in specs/ and proofs/.
+#![tactic(auto)]
 ghost use Rattle.std.specs.Prelude.{◌≡◌, true};
 ghost use Rattle.model.specs.Numbers.{answer_of, answer_number};
 ghost use Rattle.model.specs.Coded.{is_number, coded, call_of};
@@ -13,7 +14,7 @@ use rules::{Location, Refusal, Reply, State, reply_number};
 pub const MAX_UNDO: usize = 65536;
 
 /// A call on a prepared plan, with the numbers that it names.
-#[derive(Drop)]
+#[derive(Clone, Copy)]
 pub enum Call {
     /// Puts a corner at a new place.
     Move(usize, Point),
@@ -26,7 +27,7 @@ pub enum Call {
 }
 
 /// What a call answers.
-#[derive(Drop)]
+#[derive(Clone, Copy)]
 pub enum Answer {
     At(Location),
     Accepted,
@@ -34,7 +35,7 @@ pub enum Answer {
 }
 
 /// What is settled before a table is read.
-#[derive(Drop)]
+#[derive(Clone, Copy)]
 pub enum Early {
     Open,
     Settled(Answer),

@@ -9,7 +9,7 @@ use geom::{Point, Rect};
 use index::build::LEAF;
 
 /// A node of the index: its box, its part of the edge list, and the place of its left child, next to which its right child stands.
-#[derive(Drop)]
+#[derive(Clone, Copy)]
 pub struct Node {
     pub min_x: i64,
     pub min_y: i64,
@@ -21,7 +21,7 @@ pub struct Node {
 }
 
 /// What reading a node of the list gives.
-#[derive(Drop)]
+#[derive(Clone, Copy)]
 pub enum NodeRead {
     /// The node.
     At(Node),
@@ -30,7 +30,7 @@ pub enum NodeRead {
 }
 
 /// What became of a node of the list.
-#[derive(Drop)]
+#[derive(Clone, Copy)]
 pub enum NodeWritten {
     /// It was written.
     Done,

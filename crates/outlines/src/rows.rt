@@ -4,14 +4,14 @@ ghost use Rattle.std.specs.Prelude.{◌≤◌, ◌<◌, length};
 ghost use Rattle.outlines.specs.Rows.{EndSays, RunSays};
 
 /// What the entries of a table say.
-#[derive(Drop)]
+#[derive(Clone, Copy)]
 pub enum Form {
     Lengths,
     Ends,
 }
 
 /// Where a part ends, or that its entry does not fit.
-#[derive(Drop)]
+#[derive(Clone, Copy)]
 pub(crate) enum End {
     At(usize),
     Misfit,

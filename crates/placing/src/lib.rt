@@ -12,7 +12,7 @@ use refit::{DEPTH, refit};
 use ways::{Ways, find_ways};
 
 /// A corner put at a place.
-#[derive(Drop)]
+#[derive(Clone, Copy)]
 pub enum Correction {
     /// The place where it stood before.
     Made(Point),

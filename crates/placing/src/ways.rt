@@ -10,7 +10,7 @@ use walk::edges::{Edge, edge_at};
 use walk::place::{Place, place_of_edge};
 
 // Where a corner's two edges stand in the edge list.
-#[derive(Drop)]
+#[derive(Clone, Copy)]
 pub(crate) enum Places {
     // the place of the edge that starts there, and of the one that ends there
     At(usize, usize),
@@ -18,7 +18,7 @@ pub(crate) enum Places {
 }
 
 // The ways to a corner's two edges.
-#[derive(Drop)]
+#[derive(Clone, Copy)]
 pub(crate) enum Ways {
     // how many nodes the path to each has
     At(usize, usize),

@@ -1,4 +1,5 @@
 // Preparing a plan: its refusals, and the lent tables filled (document 01, items 5, 6 and 9; `Prepared::new` of src/prepared.rs).
+#![tactic(auto)]
 ghost use Rattle.prepare.specs.Tables.{Prepared};
 
 mod refusals;
@@ -9,7 +10,7 @@ use rules::{Kind, Refusal, State};
 use tables::{put_index, put_plan};
 
 /// What preparing answers.
-#[derive(Drop)]
+#[derive(Clone, Copy)]
 pub enum Preparing {
     /// The tables hold the plan. The state goes with them; the number is that of the nodes of its index, 0 where the plan is out of range.
     Ready(State, usize),
@@ -18,7 +19,7 @@ pub enum Preparing {
 }
 
 /// How many entries each lent table has: numbers of corners, rings, polygons and edges, rows of boxes and parts.
-#[derive(Drop)]
+#[derive(Clone, Copy)]
 pub struct Room {
     pub corners: usize,
     pub rings: usize,

@@ -10,7 +10,7 @@ use rules::{Refusal, Reply, State, Verdict};
 pub const MAX_POINTS: usize = 65536;
 
 /// What comes of a list of points.
-#[derive(Drop)]
+#[derive(Clone, Copy)]
 pub enum First {
     /// The place, from 0, of the first point that is not outside.
     At(usize),

@@ -2,7 +2,7 @@
 use nodes::{Node, NodeRead, NodeWritten, node_at, put_node, refit_cut, refit_leaf};
 
 /// A list of nodes after one of each call, and what each answered.
-#[derive(Drop)]
+#[derive(Clone, Copy)]
 pub(crate) struct Ran {
     pub nodes: [Node; 7],
     pub put: NodeWritten,

@@ -1,5 +1,6 @@
 // The path from the root of the index to a place of the edge list, and the boxes on it made anew when a corner has moved (document 01,
 // item 9, "The correction book", refusal 15). Whatever a refit reads is found and tested first, so that it never stops half way.
+#![tactic(auto)]
 ghost use Rattle.std.specs.Prelude.{◌≡◌, ◌+◌, ◌-◌, ◌*◌, ◌<◌, ◌≤◌, length, get_or, set};
 ghost use Rattle.rules.specs.Nodes.{node_count};
 ghost use Rattle.boxes.specs.Boxes.{row_of};
@@ -18,7 +19,7 @@ use plans::corner_at;
 pub const DEPTH: usize = 18;
 
 /// The way to a place of the edge list.
-#[derive(Drop)]
+#[derive(Clone, Copy)]
 pub enum Way {
     /// How many nodes the path to it has: the root first, the leaf last.
     At(usize),
@@ -28,7 +29,7 @@ pub enum Way {
 }
 
 // A step from a node towards a place.
-#[derive(Drop)]
+#[derive(Clone, Copy)]
 pub(crate) enum Step {
     // the node is a leaf
     Leaf,

@@ -10,7 +10,7 @@ use prepare::{Preparing, prepare};
 use rules::{Kind, Refusal, State, Verdict};
 
 /// What a replay answers.
-#[derive(Drop)]
+#[derive(Clone, Copy)]
 pub enum Outcome {
     /// The calls were run, and the state goes with the tables.
     Ran(State),

@@ -9,7 +9,7 @@ use integers::Sign;
 use predicates::{on_segment, orient};
 
 /// How an edge meets the ray to the right of a point.
-#[derive(Drop)]
+#[derive(Clone, Copy)]
 pub enum Crossing {
     Nothing,
     Up,

@@ -10,7 +10,7 @@ use geom::Point;
 use plans::corner_at;
 
 /// How often edges are crossed: once on one of them, the count no longer matters.
-#[derive(Drop)]
+#[derive(Clone, Copy)]
 pub enum Parity {
     On,
     Even,

@@ -1,10 +1,11 @@
 // The words of document 01: places, refusals, replies, and the number of each.
+#![tactic(auto)]
 ghost use Rattle.std.specs.Prelude.{◌≡◌};
 ghost use Rattle.rules.specs.Numbers.{location_number, table_number, refusal_number, refusal_detail, reply_number};
 ghost use Rattle.rules.specs.Plans.{is_list};
 
 /// Where a point lies.
-#[derive(Drop)]
+#[derive(Clone, Copy)]
 pub enum Location {
     Outside,
     Inside,
@@ -12,7 +13,7 @@ pub enum Location {
 }
 
 /// The lent tables that refusal 11 names.
-#[derive(Drop)]
+#[derive(Clone, Copy)]
 pub enum Table {
     Corners,
     Rings,
@@ -24,7 +25,7 @@ pub enum Table {
 }
 
 /// Why a call is refused. `refusal_number` and `refusal_detail` give the numbers of document 01 and of document 02's requests.
-#[derive(Drop)]
+#[derive(Clone, Copy)]
 pub enum Refusal {
     /// 1: the text is too long, to be read or to be written.
     TextTooLong,
@@ -56,21 +57,21 @@ pub enum Refusal {
 }
 
 /// A reply carries one of the three places or a refusal.
-#[derive(Drop)]
+#[derive(Clone, Copy)]
 pub enum Reply {
     At(Location),
     Refused(Refusal),
 }
 
 /// What is judged is accepted or refused.
-#[derive(Drop)]
+#[derive(Clone, Copy)]
 pub enum Verdict {
     Accepted,
     Refused(Refusal),
 }
 
 /// How the rings of a plan make up its region.
-#[derive(Drop)]
+#[derive(Clone, Copy)]
 pub enum Kind {
     /// A list of polygons, each an outer ring and then its holes.
     Polygons,
@@ -79,7 +80,7 @@ pub enum Kind {
 }
 
 /// What a caller keeps of a prepared plan beside its tables. A plan that is out of range is document 01's marked plan.
-#[derive(Drop)]
+#[derive(Clone, Copy)]
 pub struct State {
     pub kind: Kind,
     pub out_of_range: bool,
@@ -90,7 +91,7 @@ pub struct State {
 }
 
 /// The four rays on which windings are counted.
-#[derive(Drop)]
+#[derive(Clone, Copy)]
 pub enum Ray {
     Right,
     Left,

@@ -1,4 +1,5 @@
 // A text of Well-Known Text scanned (document 02, R-1): what it spells, counted, and stored as far as tables reach.
+#![tactic(auto)]
 ghost use Rattle.std.specs.Prelude.{◌≡◌};
 ghost use Rattle.scanner.specs.Extents.{no_extent};
 
@@ -11,7 +12,7 @@ pub mod texts;
 pub mod words;
 
 /// How much of a plan the text so far gives, and whether each of its rings is closed.
-#[derive(Drop)]
+#[derive(Clone, Copy)]
 pub struct Extent {
     pub corners: usize,
     pub rings: usize,
@@ -20,7 +21,7 @@ pub struct Extent {
 }
 
 /// What a part of a text comes to.
-#[derive(Drop)]
+#[derive(Clone, Copy)]
 pub enum Scan {
     /// The plan with this part, and the place behind it.
     Read(Extent, usize),

@@ -7,7 +7,7 @@ use grammar::byte_at;
 use grammar::numbers::{Token, number};
 
 /// A position read from a text.
-#[derive(Drop)]
+#[derive(Clone, Copy)]
 pub enum Position {
     /// A position, and the place behind it.
     At(Point, usize),

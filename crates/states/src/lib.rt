@@ -1,4 +1,5 @@
 // Kinds and states as 64-bit numbers, as they cross the C boundary.
+#![tactic(auto)]
 ghost use Rattle.std.specs.Prelude.{◌≡◌};
 ghost use Rattle.states.specs.States.{kind_named, kind_number, mark_number, with_kind, state_named, state_numbers};
 
@@ -6,7 +7,7 @@ use rules::{Kind, State};
 
 /// The state of a prepared plan: kind 0 a list, 1 a tree; out of range 0 or 1; counts of corners, rings and polygons; the undo depth.
 #[repr(C)]
-#[derive(Drop)]
+#[derive(Clone, Copy)]
 pub struct StateNumbers {
     pub kind: usize,
     pub out_of_range: usize,
@@ -17,14 +18,14 @@ pub struct StateNumbers {
 }
 
 /// The kind that a number names, if it names one.
-#[derive(Drop)]
+#[derive(Clone, Copy)]
 pub enum NamedKind {
     Known(Kind),
     Unknown,
 }
 
 /// The state that numbers name, if they name one.
-#[derive(Drop)]
+#[derive(Clone, Copy)]
 pub enum NamedState {
     Known(State),
     Unknown,

@@ -9,7 +9,7 @@ use index::count::node_count;
 
 /// How many nodes a build made, and how often it read a key.
 #[repr(C)]
-#[derive(Drop)]
+#[derive(Clone, Copy)]
 pub struct BuildNumbers {
     pub nodes: usize,
     pub reads: usize,

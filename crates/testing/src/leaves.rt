@@ -13,7 +13,7 @@ use predicates::{on_segment, orient, turn_words};
 
 /// A number's halves, rounded down and up, and whether it is in range as a coordinate and as a doubled one.
 #[repr(C)]
-#[derive(Drop)]
+#[derive(Clone, Copy)]
 pub struct Halves {
     pub floor: i64,
     pub ceiling: i64,
@@ -23,7 +23,7 @@ pub struct Halves {
 
 /// The lesser and the greater of two numbers, and their difference: its word, and whether the word above was borrowed from.
 #[repr(C)]
-#[derive(Drop)]
+#[derive(Clone, Copy)]
 pub struct Pair {
     pub least: i64,
     pub greatest: i64,
@@ -33,7 +33,7 @@ pub struct Pair {
 
 /// A number in two words, and whether the word above them was borrowed from.
 #[repr(C)]
-#[derive(Drop)]
+#[derive(Clone, Copy)]
 pub struct Words {
     pub borrow: bool,
     pub high: u64,
@@ -43,7 +43,7 @@ pub struct Words {
 /// The turn at three points (-1, 0 or 1), whether the third lies on the segment of the first two, whether it lies in their box, whether that
 /// box meets the box of the second and the third, and whether it holds the box of the first and the third.
 #[repr(C)]
-#[derive(Drop)]
+#[derive(Clone, Copy)]
 pub struct Turn {
     pub sign: i64,
     pub on_segment: bool,

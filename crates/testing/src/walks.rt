@@ -12,7 +12,7 @@ use walk::{Cursor, Query, Step, next, start};
 
 /// A rectangle as it crosses the C boundary.
 #[repr(C)]
-#[derive(Drop)]
+#[derive(Clone, Copy)]
 pub struct RectNumbers {
     pub least_x: i64,
     pub least_y: i64,
@@ -22,7 +22,7 @@ pub struct RectNumbers {
 
 /// A cursor as it crosses the C boundary.
 #[repr(C)]
-#[derive(Drop)]
+#[derive(Clone, Copy)]
 pub struct CursorNumbers {
     pub nodes: usize,
     pub waiting: usize,
@@ -33,7 +33,7 @@ pub struct CursorNumbers {
 
 /// A step: 0 an edge, 1 the end, 15 refused; the edge number; the cursor after it.
 #[repr(C)]
-#[derive(Drop)]
+#[derive(Clone, Copy)]
 pub struct StepNumbers {
     pub what: usize,
     pub edge: usize,

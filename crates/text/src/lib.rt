@@ -1,4 +1,5 @@
 // Plans as text: reading one, and line k of a text (document 01, item 10).
+#![tactic(auto)]
 ghost use Rattle.std.specs.Prelude.{◌≡◌};
 ghost use Rattle.text.specs.Lines.{line_of, LineSpan};
 ghost use Rattle.text.specs.Readings.{with_room, reading, PlanRead};
@@ -15,7 +16,7 @@ pub mod numbers;
 pub const MAX_TEXT: usize = 65536;
 
 /// What reading a text answers.
-#[derive(Drop)]
+#[derive(Clone, Copy)]
 pub enum Reading {
     /// The plan is in the tables, and this is its size.
     Read(Size),
@@ -78,7 +79,7 @@ pub fn read_plan(
 
 /// A part of a text: where it starts, in bytes from the text's start, and how many bytes it has.
 #[repr(C)]
-#[derive(Drop)]
+#[derive(Clone, Copy)]
 pub struct Span {
     pub offset: usize,
     pub length: usize,

@@ -9,7 +9,7 @@ use states::kind_number;
 /// What reading a text answers: the refusal number or 0; the line that refusal 2 names, the table that refusal 11 names, or 0; and the plan's
 /// kind (0 a list, 1 a tree) and how many corners, rings and polygons it has, all 0 where the text is refused.
 #[repr(C)]
-#[derive(Drop)]
+#[derive(Clone, Copy)]
 pub struct ReadingNumbers {
     pub refusal: usize,
     pub detail: usize,

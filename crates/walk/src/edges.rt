@@ -6,7 +6,7 @@ use geom::Point;
 use plans::corner_at;
 
 /// An edge by its number.
-#[derive(Drop)]
+#[derive(Clone, Copy)]
 pub enum Edge {
     /// The number of its ring, and the corners at which it starts and ends.
     At(usize, Point, Point),
@@ -15,7 +15,7 @@ pub enum Edge {
 }
 
 // The ring of a corner.
-#[derive(Drop)]
+#[derive(Clone, Copy)]
 pub(crate) enum Ring {
     At(usize),
     Unsound,

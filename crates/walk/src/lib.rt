@@ -1,5 +1,6 @@
 // The walk through the hierarchy of boxes, as a step that yields the next edge number (document 01, items 5 and 9, refusal 15; `visit`
 // and `ray_segments` of src/prepared.rs). The query stands for the closure of the Rust: whoever asks says what it looks for.
+#![tactic(auto)]
 ghost use Rattle.std.specs.Prelude.{◌≡◌, ◌+◌, ◌<◌, ◌≤◌, length};
 ghost use Rattle.walk.specs.Steps.{enters, Lent, Whether, Waiting, NodeSays, after_node, at_place, Begun, TurnSays, StopSays, Says};
 
@@ -15,7 +16,7 @@ use index::build::{LEAF, push};
 use index::count::node_count;
 
 /// What a walk looks for, and so which boxes it enters.
-#[derive(Drop)]
+#[derive(Clone, Copy)]
 pub enum Query {
     /// The boxes that share a point with a closed rectangle, if only one of their rims.
     Meeting(Rect),
@@ -25,7 +26,7 @@ pub enum Query {
 
 /// Where a walk stands: how many nodes the index has, how many of them wait on the stack, how many were met, and the places of the edge
 /// list that are left of the leaf in hand, from `at` up to `to`.
-#[derive(Drop)]
+#[derive(Clone, Copy)]
 pub struct Cursor {
     pub nodes: usize,
     pub waiting: usize,
@@ -35,7 +36,7 @@ pub struct Cursor {
 }
 
 /// What a walk comes to when it goes on to a leaf.
-#[derive(Drop)]
+#[derive(Clone, Copy)]
 pub enum Stop {
     /// Where the walk stands with a leaf in hand: its places from `at` up to `to` are left, and there is one.
     Leaf(Cursor),
@@ -46,7 +47,7 @@ pub enum Stop {
 }
 
 /// What a step of a walk gives.
-#[derive(Drop)]
+#[derive(Clone, Copy)]
 pub enum Step {
     /// The next edge number, and where the walk stands after it.
     Edge(usize, Cursor),
@@ -58,7 +59,7 @@ pub enum Step {
 }
 
 // What a node asks of a walk.
-#[derive(Drop)]
+#[derive(Clone, Copy)]
 pub(crate) enum Node {
     // one of its numbers is outside its table
     Unsound,
@@ -71,7 +72,7 @@ pub(crate) enum Node {
 }
 
 // A node met: where the walk stands after it, or 15.
-#[derive(Drop)]
+#[derive(Clone, Copy)]
 pub(crate) enum Turn {
     On(Cursor),
     Unsound,

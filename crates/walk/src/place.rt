@@ -7,7 +7,7 @@ use crate::{Query, STACK, Step, next, start};
 use geom::Rect;
 
 /// Where an edge stands in the edge list.
-#[derive(Drop)]
+#[derive(Clone, Copy)]
 pub enum Place {
     /// The place.
     At(usize),

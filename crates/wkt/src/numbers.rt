@@ -9,7 +9,7 @@ use text::Reading;
 /// What reading answers: the refusal number or 0; the place that refusal 21 names, the table that refusal 11 names, or 0; and how many
 /// corners, rings and polygons the plan has, all 0 where the text is refused.
 #[repr(C)]
-#[derive(Drop)]
+#[derive(Clone, Copy)]
 pub struct ReadNumbers {
     pub refusal: usize,
     pub detail: usize,
@@ -20,7 +20,7 @@ pub struct ReadNumbers {
 
 /// What writing answers: the refusal number or 0; the table that refusal 11 names, or 0; and how many bytes were written.
 #[repr(C)]
-#[derive(Drop)]
+#[derive(Clone, Copy)]
 pub struct WriteNumbers {
     pub refusal: usize,
     pub table: usize,

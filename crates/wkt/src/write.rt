@@ -14,7 +14,7 @@ use writer::lengths::text_length;
 use writer::put_text;
 
 /// What writing a plan as Well-Known Text answers.
-#[derive(Drop)]
+#[derive(Clone, Copy)]
 pub enum Writing {
     /// The text stands in the output from its start, and has so many bytes.
     Written(usize),

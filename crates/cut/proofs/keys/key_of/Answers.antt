@@ -1,0 +1,19 @@
+-- `cut::keys::key_of` meets its contract: the sum of two coordinates in range does not wrap.
+use mathlib.Core.Path.{sym, ap, ◌∙◌}
+use Rattle.cut.specs.Keys.{key_of}
+use Rattle.cut.proofs.Packing.{sum_fits, sum_is}
+use Rattle.cut.proofs.keys.key_of.Goals as goal
+
+pub overflow_add-result : goal.overflow_add-result
+overflow_add-result c = let s = c in sum_fits s.args.b.min.x s.args.b.max.x s.requires.min_x s.requires.max_x
+
+pub overflow_add-result-in-Y : goal.overflow_add-result-in-Y
+overflow_add-result-in-Y c = let s = c in sum_fits s.args.b.min.y s.args.b.max.y s.requires.min_y s.requires.max_y
+
+pub returns-in-X : goal.returns-in-X
+returns-in-X c = let s = c in
+    sum_is s.args.b.min.x s.args.b.max.x s.requires.min_x s.requires.max_x ∙ ap (λ a. key_of a s.args.b) (sym c.in-X.is)
+
+pub returns-in-Y : goal.returns-in-Y
+returns-in-Y c = let s = c in
+    sum_is s.args.b.min.y s.args.b.max.y s.requires.min_y s.requires.max_y ∙ ap (λ a. key_of a s.args.b) (sym c.in-Y.is)

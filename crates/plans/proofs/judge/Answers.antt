@@ -1,0 +1,13 @@
+-- `plans::judge` meets its contract: 4 where `too_many` says so, then 3 where `uneven` does.
+use mathlib.Core.Path.{sym, ◌∙◌}
+use Rattle.rules.proofs.Verdicts.{too_many_first, uneven_second, accepted_else, judged}
+use Rattle.plans.proofs.judge.Goals as goal
+
+pub returns-then-too_many : goal.returns-then-too_many
+returns-then-too_many c = judged _ _ (sym (too_many_first _ (sym c.too_many.ensures ∙ c.if-too_many.true)))
+
+pub returns-then-uneven : goal.returns-then-uneven
+returns-then-uneven c = judged _ _ (sym (uneven_second _ (sym c.too_many.ensures ∙ c.if-too_many.false) (sym c.uneven.ensures ∙ c.if-uneven.true)))
+
+pub returns : goal.returns
+returns c = judged _ _ (sym (accepted_else _ (sym c.too_many.ensures ∙ c.if-too_many.false) (sym c.uneven.ensures ∙ c.if-uneven.false)))

@@ -1,0 +1,49 @@
+-- `refit::put_stops` meets its contract.
+use mathlib.Core.Path.{◌≡◌}
+use native.Mathlib.Omega.{arith}
+use Rattle.index.proofs.Tables.{kept_all, kept_set}
+use Rattle.refit.proofs.Stopping.{stops_none, stops_more, stop_outside, edge_outside}
+use Rattle.refit.proofs.put_stops.Goals as goal
+
+pub loop-j-init : goal.loop-j-init
+loop-j-init c =
+    let s = c in
+    let a = s.args in
+    (omega arith, s.requires.count_nonzero.0, kept_all a.size a.stops.now, stops_none a.n a.count a.rings.now a.edges.now a.first a.stops.now)
+
+pub returns-then-n-e : goal.returns-then-n-e
+returns-then-n-e c =
+    let a = c.args in record { stops_say = edge_outside a.n a.count a.rings.now a.edges.now a.first a.size c.loop-j.j c.loop-j-test.true c.if-n-e.true; kept_from = c.loop-j.invariant.2 }
+
+pub ring_near-ring-requires : goal.ring_near-ring-requires
+ring_near-ring-requires c =
+    let s = c in
+    let l = c.loop-j in
+    (l.invariant.1, s.requires.count_nonzero.1, omega (arith, s.requires.count_nonzero.2))
+
+pub next_corner-stop-requires : goal.next_corner-stop-requires
+next_corner-stop-requires c =
+    let s = c in
+    (omega (arith, c.ring_near-ring.ensures.ring, s.requires.count_nonzero.1), c.ring_near-ring.ensures.to)
+
+pub returns-then-n-stop : goal.returns-then-n-stop
+returns-then-n-stop c =
+    let a = c.args in record { stops_say = stop_outside a.n a.count a.rings.now a.edges.now a.first a.size c.loop-j.j c.loop-j-test.true c.ring_near-ring.result c.ring_near-ring.ensures c.next_corner-stop.result c.next_corner-stop.ensures c.if-n-stop.true; kept_from = c.loop-j.invariant.2 }
+
+pub loop-j-preserved : goal.loop-j-preserved
+loop-j-preserved c =
+    let a = c.args in
+    let l = c.loop-j in
+    let ring = c.ring_near-ring in
+    let next = c.next_corner-stop in (
+      omega arith,
+      ring.ensures.ring,
+      kept_set a.size a.stops.now l.stops l.j next.result (omega arith) l.invariant.2,
+      stops_more a.n a.count a.rings.now a.edges.now a.first l.j l.stops l.invariant.3 (omega arith) ring.result ring.ensures c.if-n-e.false next.result next.ensures c.if-n-stop.false,
+    )
+
+pub returns : goal.returns
+returns c =
+    let a = c.args in
+    let l = c.loop-j in
+    let e : l.j ≡ a.size = omega arith in record { stops_say = rw e at l.invariant.3; kept_from = l.invariant.2 }

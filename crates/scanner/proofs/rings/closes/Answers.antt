@@ -1,0 +1,10 @@
+-- `scanner::rings::closes` meets its contract.
+use mathlib.Core.Path.{refl}
+use borrow.Author.Tests.{eq-eqb, ne_eqb}
+use Rattle.scanner.proofs.rings.closes.Goals as goal
+
+pub returns-then-count-eq0 : goal.returns-then-count-eq0
+returns-then-count-eq0 c = rw (eq-eqb _ _ c.if-count-eq0.true) refl
+
+pub returns : goal.returns
+returns c = rw (ne_eqb _ _ c.if-count-eq0.false) c.same_point.ensures

@@ -1,0 +1,22 @@
+-- `walk::lent_enough` meets its contract.
+use borrow.Author.Tests.{leb-true, le-leb}
+use native.Mathlib.Omega.{arith}
+use lib.Dec.{leb}
+use Rattle.walk.proofs.Turning.{whether_both}
+use Rattle.walk.proofs.lent_enough.Goals as goal
+
+pub returns : goal.returns
+returns c =
+    let start = c.before.before.before.before.before.before.before.before in
+    whether_both _ (leb start.args.cursor.waiting 18) (leb start.args.cursor.to start.args.n)
+    (λ a b.
+    record {
+      stack_reach = omega arith;
+      boxes_reach = omega arith;
+      parts_reach = omega arith;
+      edges_reach = omega arith;
+      few_waiting = leb-true start.args.cursor.waiting 18 a;
+      inside = leb-true start.args.cursor.to start.args.n b;
+    })
+    (λ L. le-leb start.args.cursor.waiting 18 L.few_waiting)
+    (λ L. le-leb start.args.cursor.to start.args.n L.inside)
