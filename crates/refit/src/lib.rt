@@ -1,6 +1,7 @@
 // The path from the root of the index to a place of the edge list, and the boxes on it made anew when a corner has moved (document 01,
 // item 9, "The correction book", refusal 15). Whatever a refit reads is found and tested first, so that it never stops half way.
 #![tactic(auto)]
+
 ghost use Rattle.std.specs.Prelude.{◌≡◌, ◌+◌, ◌-◌, ◌*◌, ◌<◌, ◌≤◌, length, get_or, set};
 ghost use Rattle.rules.specs.Nodes.{node_count};
 ghost use Rattle.boxes.specs.Boxes.{row_of};

@@ -1,6 +1,7 @@
 // The walk through the hierarchy of boxes, as a step that yields the next edge number (document 01, items 5 and 9, refusal 15; `visit`
 // and `ray_segments` of src/prepared.rs). The query stands for the closure of the Rust: whoever asks says what it looks for.
 #![tactic(auto)]
+
 ghost use Rattle.std.specs.Prelude.{◌≡◌, ◌+◌, ◌<◌, ◌≤◌, length};
 ghost use Rattle.walk.specs.Steps.{enters, Lent, Whether, Waiting, NodeSays, after_node, at_place, Begun, TurnSays, StopSays, Says};
 

@@ -12,27 +12,24 @@ put_plan-requires c =
     let a = c.args in
     let plan : Plan = record { kind = a.kind; coordinates = a.coordinates.now; lengths = a.lengths.now; counts = a.counts.now } in
     let tables : Tables = record { corners = a.corners.now; rings = a.rings.now; polygons = a.polygons.now; boxes = a.boxes.now; parts = a.parts.now; edges = a.edges.now } in
-    let s = c.state.given in
-    let answered = sym s.1 ∙ c.answer.ensures in
-    plan_fits plan tables s.0.0 s.0.1.0 (given plan (room_of tables) s.0.0 s.0.1.0 answered)
+    let answered = sym c.in-Ready.is ∙ c.answer.ensures in
+    plan_fits plan tables c.in-Ready.state c.in-Ready.nodes (given plan (room_of tables) c.in-Ready.state c.in-Ready.nodes answered)
 
 pub put_index-requires : goal.put_index-requires
 put_index-requires c =
     let a = c.args in
     let plan : Plan = record { kind = a.kind; coordinates = a.coordinates.now; lengths = a.lengths.now; counts = a.counts.now } in
     let tables : Tables = record { corners = a.corners.now; rings = a.rings.now; polygons = a.polygons.now; boxes = a.boxes.now; parts = a.parts.now; edges = a.edges.now } in
-    let s = c.state.given in
-    let answered = sym s.1 ∙ c.answer.ensures in
-    buildable plan tables s.0.0 s.0.1.0 (given plan (room_of tables) s.0.0 s.0.1.0 answered) _ _ _ c.put_plan.ensures
+    let answered = sym c.in-Ready.is ∙ c.answer.ensures in
+    buildable plan tables c.in-Ready.state c.in-Ready.nodes (given plan (room_of tables) c.in-Ready.state c.in-Ready.nodes answered) _ _ _ c.put_plan.ensures
 
 pub returns-in-Ready : goal.returns-in-Ready
 returns-in-Ready c =
     let a = c.args in
     let plan : Plan = record { kind = a.kind; coordinates = a.coordinates.now; lengths = a.lengths.now; counts = a.counts.now } in
     let tables : Tables = record { corners = a.corners.now; rings = a.rings.now; polygons = a.polygons.now; boxes = a.boxes.now; parts = a.parts.now; edges = a.edges.now } in
-    let s = c.state.given in
-    let answered = sym s.1 ∙ c.answer.ensures in
-    prepared_as plan tables _ _ answered (filled plan tables s.0.0 s.0.1.0 (given plan (room_of tables) s.0.0 s.0.1.0 answered) _ c.put_plan.ensures c.put_index.ensures)
+    let answered = sym c.in-Ready.is ∙ c.answer.ensures in
+    prepared_as plan tables _ _ answered (filled plan tables c.in-Ready.state c.in-Ready.nodes (given plan (room_of tables) c.in-Ready.state c.in-Ready.nodes answered) _ c.put_plan.ensures c.put_index.ensures)
 
 pub returns-in-Refused : goal.returns-in-Refused
 returns-in-Refused c = prepared_as _ _ _ _ (sym c.in-Refused.is ∙ c.answer.ensures) refl

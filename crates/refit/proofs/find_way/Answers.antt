@@ -71,7 +71,7 @@ returns-then-not-put_stops c =
     let L = lent (goal.at.returns-then-not-put_stops c).Else-not-lent_enough in
     let path = c.path_to in
     let stops = c.put_stops in
-    way_refused a.n a.count a.rings.now a.parts.now a.edges.now a.k a.path.now a.stops.now path.new.path stops.new.stops L path.ensures.1 (kept_wider _ 8 a.stops.now stops.new.stops (found (goal.at.returns-then-not-put_stops c).In-At).leaf.small stops.ensures.1)
+    way_refused a.n a.count a.rings.now a.parts.now a.edges.now a.k a.path.now a.stops.now path.new.path stops.new.stops L path.ensures.kept_from (kept_wider _ 8 a.stops.now stops.new.stops (found (goal.at.returns-then-not-put_stops c).In-At).leaf.small stops.ensures.kept_from)
     (never_stopped a.n a.count a.rings.now a.parts.now a.edges.now a.k c.path_to.new.path c.in-At.depth c.node_count.result c.node_count.ensures (found (goal.at.returns-then-not-put_stops c).In-At)
     (rw (c.if-not-put_stops.true) at c.put_stops.ensures.stops_say))
 
@@ -82,8 +82,8 @@ pub returns-in-Unsound : goal.returns-in-Unsound
 returns-in-Unsound c =
     let a = c.args in
     let path = c.path_to in
-    way_refused a.n a.count a.rings.now a.parts.now a.edges.now a.k a.path.now a.stops.now path.new.path a.stops.now (lent (goal.at.returns-in-Unsound c).Else-not-lent_enough) path.ensures.1 (kept_all 8 a.stops.now)
-    (λ corners boxes T. (rw c.in-Unsound.is at path.ensures.0) a.count corners a.rings.now boxes a.edges.now T)
+    way_refused a.n a.count a.rings.now a.parts.now a.edges.now a.k a.path.now a.stops.now path.new.path a.stops.now (lent (goal.at.returns-in-Unsound c).Else-not-lent_enough) path.ensures.kept_from (kept_all 8 a.stops.now)
+    (λ corners boxes T. (rw c.in-Unsound.is at path.ensures.path_says) a.count corners a.rings.now boxes a.edges.now T)
 
 pub shape_of-path-else-not-put_stops : goal.shape_of-path-else-not-put_stops
 shape_of-path-else-not-put_stops c = c.path_to.auto.path
@@ -102,7 +102,7 @@ returns-else-not-put_stops c =
           way_found a.n a.count a.rings.now a.parts.now a.edges.now a.k path.new.path stops.new.stops c.in-At.depth c.node_count.result
           (subst (λ m. Lent a.n a.count a.k m (length stops.new.stops) a.rings.now (length a.parts.now) (length a.edges.now)) (sym path.auto.path)
           (subst (λ m. Lent a.n a.count a.k (length a.path.now) m a.rings.now (length a.parts.now) (length a.edges.now)) (sym stops.auto.stops) L))
-          c.node_count.ensures (found (goal.at.returns-else-not-put_stops c).In-At) (rw (c.if-not-put_stops.false) at stops.ensures.0);
-      path_space = path.ensures.1;
-      stops_space = kept_wider _ 8 a.stops.now stops.new.stops (found (goal.at.returns-else-not-put_stops c).In-At).leaf.small stops.ensures.1;
+          c.node_count.ensures (found (goal.at.returns-else-not-put_stops c).In-At) (rw (c.if-not-put_stops.false) at stops.ensures.stops_say);
+      path_space = path.ensures.kept_from;
+      stops_space = kept_wider _ 8 a.stops.now stops.new.stops (found (goal.at.returns-else-not-put_stops c).In-At).leaf.small stops.ensures.kept_from;
     }

@@ -7,7 +7,7 @@ use Rattle.walk.proofs.lent_enough.Goals as goal
 
 pub returns : goal.returns
 returns c =
-    let start = c.before.before.before.before.before.before.before.before in
+    let start = c in
     whether_both _ (leb start.args.cursor.waiting 18) (leb start.args.cursor.to start.args.n)
     (λ a b.
     record {

@@ -15,7 +15,7 @@ entered c =
 
 pub returns-then-not-is_entered : goal.returns-then-not-is_entered
 returns-then-not-is_entered c =
-    let start = c.before.before.before.before.before.before.before.before in
+    let start = c in
     record {
       node = omega arith;
       to = refl;
