@@ -1,0 +1,16 @@
+-- `gather::collect::collect` meets its contract, leaf by leaf.
+use mathlib.Core.Path.{◌≡◌}
+use mathlib.Core.List.{[]}
+use lib.ListN.{length}
+use Rattle.walk.specs.Steps.{remaining}
+use Rattle.gather.specs.Tallies.{is_listed, Room, Tallied}
+use Rattle.gather.specs.Collections.{WalkedSound}
+use Rattle.gather.proofs.Collecting.{Collecting}
+use Rattle.gather.proofs.collect.collect.Given as goal
+
+abbrev pub invariant-loop-leaf : goal.invariant-loop-leaf
+invariant-loop-leaf l =
+    (length l.stack ≡ 18) × Room l.here (length l.listed) (length l.slots) × (is_listed l.here ≡ is_listed l.initial.here) × (length l.listed ≡ length l.initial.listed) × (length l.slots ≡ length l.initial.slots) × (WalkedSound l.n l.count l.corners l.rings l.boxes l.parts l.edges → Tallied l.count [] l.initial.here l.initial.listed l.initial.slots → Collecting l.n l.count l.corners l.rings l.parts l.edges l.ray l.query l.p l.stack l.cursor l.here l.listed l.slots)
+
+abbrev pub decreases-loop-leaf : goal.decreases-loop-leaf
+decreases-loop-leaf l = remaining l.cursor

@@ -1,0 +1,21 @@
+-- `gather::region::many_rings` meets its contract.
+use mathlib.Core.Path.{◌∙◌, ap}
+use Rattle.rays.specs.Reach.{ray_rect}
+use Rattle.walk.specs.declared.Query.TheVariants.{Meeting}
+use native.Mathlib.Omega.{arith}
+use lib.IntN.{pos}
+use lib.ListN.{get_or-replicate}
+use mathlib.Core.Bool.{false}
+use Rattle.gather.specs.Regions.{LookSound}
+use Rattle.gather.proofs.Tallying.{each_none}
+use Rattle.gather.proofs.Looking.{region_from}
+use Rattle.gather.proofs.region.many_rings.Goals as goal
+
+pub region_by-requires : goal.region_by-requires
+region_by-requires c =
+    let s = c in record { room = omega arith; rings_bound = (s.requires.0, s.requires.1, s.requires.2, ap Meeting (c.ray_rect.ensures ∙ ap (λ root. ray_rect s.args.ray root s.args.p) c.rect_at.ensures)) }
+
+pub returns : goal.returns
+returns c =
+    let a = c.args in
+    region_from false (LookSound a.state a.corners.now a.rings.now a.polygons.now a.boxes.now a.parts.now a.edges.now) _ _ c.region_by.result (each_none a.state.rings _ _ (λ k h. get_or-replicate 65536 k (pos 0) (pos 0) (omega (arith, c.requires.0)))) c.region_by.ensures
