@@ -1,4 +1,6 @@
 // Corner corrections with undo on a prepared plan (document 01, item 9, "The correction book", refusals 5, 6 and 12 to 15).
+#![tactic(auto)]
+
 ghost use Rattle.std.specs.Prelude.{◌≡◌, List, ℕ, ◌<◌};
 ghost use Rattle.model.specs.declared.Answer.TheVariants.{Refused};
 ghost use Rattle.model.specs.declared.Call.TheVariants.{Move, Undo};

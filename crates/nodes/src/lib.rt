@@ -1,5 +1,7 @@
 // The node table as a lent list of records (document 01, items 5 and 9, refusal 15): thin functions that read, put and refit one node.
 // What they compute they leave to functions over plain numbers, lists of numbers and records by value.
+#![tactic(auto)]
+
 ghost use Rattle.std.specs.Prelude.{◌≡◌, set};
 ghost use Rattle.nodes.specs.Nodes.{rect_of_node, in_box, Fits, fitted_leaf, fitted_cut, leaf_refitted, cut_refitted};
 ghost use Rattle.nodes.specs.Answers.{ends_rise, names_edges, is_fit, has_children, is_listed, leaf_sound, cut_sound, Reads, Writes};

@@ -1,4 +1,6 @@
 // A corner put at a place, with the boxes above its two edges made anew (document 01, item 9, "The correction book").
+#![tactic(auto)]
+
 ghost use Rattle.std.specs.Prelude.{◌≡◌, ◌+◌, ◌*◌, ◌<◌, length};
 ghost use Rattle.model.specs.Entries.{put_corner};
 ghost use Rattle.placing.specs.Places.{Placeable, Placed, CorrectionSays};

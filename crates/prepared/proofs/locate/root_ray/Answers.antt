@@ -1,0 +1,14 @@
+-- `prepared::locate::root_ray` meets its contract.
+use mathlib.Core.Path.{ap, ◌∙◌}
+use native.Mathlib.Omega.{arith}
+use Rattle.rules.specs.Rays.{ray_of}
+use Rattle.prepared.proofs.locate.root_ray.Goals as goal
+
+pub returns-then-boxes-eq0 : goal.returns-then-boxes-eq0
+returns-then-boxes-eq0 c = λ h. let e = c.if-boxes-eq0.true in absurd (omega arith)
+
+pub rect_at-requires : goal.rect_at-requires
+rect_at-requires c = let e = c.if-boxes-eq0.false in omega arith
+
+pub returns : goal.returns
+returns c = λ h. let a = c.args in c.ray_of.ensures ∙ ap (λ root. ray_of a.n root a.p) c.rect_at.ensures
