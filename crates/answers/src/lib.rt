@@ -1,4 +1,6 @@
 // The whole of the program `findspot` but reading and writing: input bytes to output bytes (document 01, "Trays to try").
+#![tactic(auto)]
+
 ghost use Rattle.std.specs.Prelude.{◌≤◌, length, drop};
 ghost use Rattle.fields.specs.Pieces.{split};
 ghost use Rattle.fields.specs.Written.{Wrote};

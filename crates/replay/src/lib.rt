@@ -1,5 +1,7 @@
 // A list of calls replayed: a plan prepared, and moves, undos and look-ups run on it one after another, each given what the last one left.
 // What is promised is demand 3 of document 01, for code that runs.
+#![tactic(auto)]
+
 ghost use Rattle.replay.specs.Replays.{Replays};
 
 pub mod calls;
