@@ -1,7 +1,7 @@
 // Standard input to its end, with a read that fails told apart from the end.
 ghost use Rattle.findspot.specs.Inputs.{Came, Holds};
 
-use libc::STDIN_FILENO;
+use std::io::{Error, Read};
 
 /// What one read comes to.
 #[derive(Clone, Copy)]
@@ -11,7 +11,7 @@ pub(crate) enum Got {
     /// The input is at its end.
     End,
     /// The read failed.
-    Failed,
+    Failed(Error),
 }
 
 /// What reading to the end comes to.
@@ -20,34 +20,30 @@ pub(crate) enum Input {
     /// The input's bytes, or as many of them as the buffer holds, stand at its start: so many.
     Read(usize),
     /// A read failed.
-    Failed,
+    Failed(Error),
 }
 
 // One read into a part of the buffer that is not empty.
-fn read_some(part: &mut [u8]) -> Got
+fn read_some<R: Read>(source: &mut R, part: &mut [u8]) -> Got
     ensures { Came part.new result }
 {
-    let got = libc::read(STDIN_FILENO, part);
-    if got < 0 {
-        return Got::Failed;
+    match source.read(part) {
+        Ok(0) => Got::End,
+        Ok(count) => Got::Bytes(count),
+        Err(error) => Got::Failed(error),
     }
-    let count = io::count(got, part);
-    if count == 0 {
-        return Got::End;
-    }
-    Got::Bytes(count)
 }
 
 /// Reads until the input ends or the buffer is full.
-pub(crate) fn read_input(buffer: &mut [u8]) -> Input
+pub(crate) fn read_input<R: Read>(source: &mut R, buffer: &mut [u8]) -> Input
     ensures { Holds buffer.new result }
 {
     let mut held = 0;
     while held < buffer.len() {
-        match read_some(&mut buffer[held..]) {
+        match read_some(source, &mut buffer[held..]) {
             Got::Bytes(count) => held += count,
             Got::End => return Input::Read(held),
-            Got::Failed => return Input::Failed,
+            Got::Failed(error) => return Input::Failed(error),
         }
     }
     Input::Read(held)

@@ -1,28 +1,42 @@
 // Says where points lie in a plan: standard input is read to its end, and what `answers::answer` gives for it is written to standard output
 // (document 01, "Trays to try"). Reading and writing alone stand outside the proof.
+#![tactic(auto)]
+
 mod input;
 
 use answers::{MAX_INPUT, Outcome, answer};
 use input::{Input, read_input};
-use libc::STDOUT_FILENO;
+use std::io;
+use std::io::Write;
+use std::process::ExitCode;
+
+// Room for any answer.
+const OUTPUT_ROOM: usize = 65536;
 
 // Writes the answer to an input.
-fn reply(input: &[u8]) {
-    let mut output = io::large_buffer();
+fn reply<W: Write>(input: &[u8], target: &mut W) -> io::Result<()> {
+    let mut output = [0u8; OUTPUT_ROOM];
     let Outcome::Written(count) = answer(input, &mut output) else {
-        return;
+        return Ok(());
     };
-    if !io::write_all(STDOUT_FILENO, &output[..count]) {
-        os::fail(b"findspot: standard output");
-    }
+    target.write_all(&output[..count])
 }
 
-fn main() {
+// Says on standard error what failed.
+fn fail(rt: &impl Eprint, name: &str, error: io::Error) -> ExitCode {
+    let _ = eprintln!(rt; "findspot: {name}: {error}");
+    ExitCode::FAILURE
+}
+
+fn main(rt: HostRuntime) -> ExitCode {
     // One byte more than an input may have, so that a longer one is seen to be too long.
     let mut input = [0u8; MAX_INPUT + 1];
-    match read_input(&mut input) {
-        Input::Read(count) => reply(&input[..count]),
+    match read_input(&mut rt.stdin(), &mut input) {
+        Input::Read(count) => match reply(&input[..count], &mut rt.stdout()) {
+            Ok(()) => ExitCode::SUCCESS,
+            Err(error) => fail(&rt, "standard output", error),
+        },
         // A part of an input is not answered.
-        Input::Failed => os::fail(b"findspot: standard input"),
+        Input::Failed(error) => fail(&rt, "standard input", error),
     }
 }

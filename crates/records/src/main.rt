@@ -6,17 +6,19 @@
 //
 // One plan has 20 corners and so seven nodes, the other 8 and so a leaf at the root; both have three rings, the second of them empty. Over the
 // larger one each call is refused once for every reason that it has, and the records have to be as they were.
+#![tactic(auto)]
+
 mod list;
 
 use corrections::move_corner;
 use geom::Point;
-use libc::STDOUT_FILENO;
 use list::run;
 use model::Answer;
 use nodes::{Node, NodeRead, NodeWritten};
 use prepare::{Preparing, prepare};
 use refit::{Way, find_way};
 use rules::{Kind, State};
+use std::io;
 use walk::place::{Place, place_of_edge};
 
 // The most corners that a plan has, and a place that no list has.
@@ -24,8 +26,8 @@ const CORNERS: usize = 20;
 
 const NOWHERE: usize = 7;
 
-fn write(text: &[u8]) {
-    io::write_all(STDOUT_FILENO, text);
+fn write(rt: &impl Print, text: &str) -> io::Result<()> {
+    rt.print(text)
 }
 
 // A node of no edges.
@@ -389,66 +391,84 @@ fn damaged(nodes: [Node; 7], first: usize, count: usize, child: usize) -> [Node;
     list
 }
 
-fn write_whether(name: &[u8], held: bool) {
-    write(name);
-    if held {
-        write(b" yes\n");
-    } else {
-        write(b" no\n");
-    }
+fn write_whether(rt: &impl Print, name: &str, held: bool) -> io::Result<()> {
+    write(rt, name)?;
+    write(rt, if held { " yes\n" } else { " no\n" })
 }
 
 // What tables of other lengths or numbers get, for the leaf at place 6 of a plan of 20 corners in three rings.
-fn refused_tables(nodes: [Node; 7], corners: &[i64], rings: &[usize], edges: &[usize]) {
+fn refused_tables(
+    rt: &impl Print,
+    nodes: [Node; 7],
+    corners: &[i64],
+    rings: &[usize],
+    edges: &[usize],
+) -> io::Result<()> {
     let few: [i64; 38] = [0; 38];
     let falling: [usize; 3] = [9, 8, 20];
     let nowhere: [usize; CORNERS] = [20; CORNERS];
     write_whether(
-        b"too few corners refused",
+        rt,
+        "too few corners refused",
         refused(nodes, &few, rings, edges, 20, 3, 6, NOWHERE),
-    );
+    )?;
     write_whether(
-        b"too few rings refused",
+        rt,
+        "too few rings refused",
         refused(nodes, corners, rings, edges, 20, 4, 6, NOWHERE),
-    );
+    )?;
     write_whether(
-        b"rings that end elsewhere refused",
+        rt,
+        "rings that end elsewhere refused",
         refused(nodes, corners, rings, edges, 19, 3, 6, NOWHERE),
-    );
+    )?;
     write_whether(
-        b"ring ends that fall refused",
+        rt,
+        "ring ends that fall refused",
         refused(nodes, corners, &falling, edges, 20, 3, 6, NOWHERE),
-    );
+    )?;
     write_whether(
-        b"an edge that is none refused",
+        rt,
+        "an edge that is none refused",
         refused(nodes, corners, rings, &nowhere, 20, 3, 6, NOWHERE),
-    );
+    )
 }
 
 // What places and nodes get that lead outside their table.
-fn refused_nodes(nodes: [Node; 7], corners: &[i64], rings: &[usize], edges: &[usize]) {
+fn refused_nodes(
+    rt: &impl Print,
+    nodes: [Node; 7],
+    corners: &[i64],
+    rings: &[usize],
+    edges: &[usize],
+) -> io::Result<()> {
     let past = damaged(nodes, 20, 9, 6);
     let far = damaged(nodes, 21, 9, 18446744073709551615);
     write_whether(
-        b"a place past the list refused",
+        rt,
+        "a place past the list refused",
         refused(nodes, corners, rings, edges, 20, 3, NOWHERE, NOWHERE),
-    );
+    )?;
     write_whether(
-        b"a leaf's children refused",
+        rt,
+        "a leaf's children refused",
         refused(nodes, corners, rings, edges, 20, 3, NOWHERE, 6),
-    );
+    )?;
     write_whether(
-        b"a part that ends past the edge list and a child past the list refused",
+        rt,
+        "a part that ends past the edge list and a child past the list refused",
         refused(past, corners, rings, edges, 20, 3, 6, 6),
-    );
+    )?;
     write_whether(
-        b"a part that begins past the edge list and the largest child refused",
+        rt,
+        "a part that begins past the edge list and the largest child refused",
         refused(far, corners, rings, edges, 20, 3, 6, 6),
-    );
+    )
 }
 
 // All that is asked of the records of a plan just prepared, with two moves a corner.
 fn examine(
+    rt: &impl Print,
     state: State,
     corners: &mut [i64],
     rings: &[usize],
@@ -456,26 +476,31 @@ fn examine(
     parts: &[[usize; 3]],
     edges: &[usize],
     moves: usize,
-) {
+) -> io::Result<()> {
     let n = moves / 2;
     let mut undo: [[i64; 3]; 40] = [[0; 3]; 40];
     let nodes = filled(corners, rings, boxes, parts, edges, n);
     write_whether(
-        b"filled",
+        rt,
+        "filled",
         alike(nodes, corners, rings, boxes, parts, edges, n),
-    );
+    )?;
     if n == CORNERS {
-        refused_tables(nodes, corners, rings, edges);
-        refused_nodes(nodes, corners, rings, edges);
+        refused_tables(rt, nodes, corners, rings, edges)?;
+        refused_nodes(rt, nodes, corners, rings, edges)?;
     }
     let held = moved(
         nodes, state, corners, rings, boxes, parts, edges, &mut undo, moves,
     );
-    write_whether(b"each corner moved twice, and alike after each move", held);
+    write_whether(
+        rt,
+        "each corner moved twice, and alike after each move",
+        held,
+    )
 }
 
 // Prepares a tree of three rings, of at most 20 corners together, and asks.
-fn examine_plan(coordinates: &[i64], lengths: &[usize]) {
+fn examine_plan(rt: &impl Print, coordinates: &[i64], lengths: &[usize]) -> io::Result<()> {
     let counts: [usize; 0] = [];
     let mut corners: [i64; 40] = [0; 40];
     let mut rings: [usize; 3] = [0; 3];
@@ -495,8 +520,9 @@ fn examine_plan(coordinates: &[i64], lengths: &[usize]) {
         &mut parts,
         &mut edges,
     ) {
-        Preparing::Refused(_) => write(b"refused\n"),
+        Preparing::Refused(_) => write(rt, "refused\n"),
         Preparing::Ready(state, _) => examine(
+            rt,
             state,
             &mut corners,
             &rings,
@@ -508,13 +534,16 @@ fn examine_plan(coordinates: &[i64], lengths: &[usize]) {
     }
 }
 
-fn main() {
+fn main(rt: HostRuntime) -> io::Result<()> {
     let mut many: [i64; 40] = [0; 40];
     let mut few: [i64; 16] = [0; 16];
     put_coordinates(&mut many);
     put_coordinates(&mut few);
-    write(b"20 corners in three rings, one of them empty\n");
-    examine_plan(&many, &[9, 0, 11]);
-    write(b"8 corners in three rings, one of them empty: a leaf at the root\n");
-    examine_plan(&few, &[5, 0, 3]);
+    write(&rt, "20 corners in three rings, one of them empty\n")?;
+    examine_plan(&rt, &many, &[9, 0, 11])?;
+    write(
+        &rt,
+        "8 corners in three rings, one of them empty: a leaf at the root\n",
+    )?;
+    examine_plan(&rt, &few, &[5, 0, 3])
 }
