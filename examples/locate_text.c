@@ -1,6 +1,6 @@
 /* A square with a square hole, asked from C at four points, and a text that is refused.
  *
- *     rt staticlib capi
+ *     tools/build capi
  *     cc -Iinclude examples/locate_text.c target/staticlib/libcapi.a -o target/locate_text && target/locate_text
  */
 #include <stdio.h>

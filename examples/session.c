@@ -1,6 +1,6 @@
 /* A plan as a server in C keeps it: read from text, prepared once, asked on both grids, through the boxes and ring by ring, corrected and undone.
  *
- *     rt staticlib capi
+ *     tools/build capi
  *     cc -Iinclude examples/session.c target/staticlib/libcapi.a -o target/session && target/session
  *
  * It is C11, and C++ as it stands.

@@ -1,6 +1,6 @@
 /* Well-Known Text as a server in C takes it: a file is read and prepared, asked and corrected, and the corrected plan is written back.
  *
- *     rt staticlib capi
+ *     tools/build capi
  *     cc -Iinclude examples/wkt.c target/staticlib/libcapi.a -o target/wkt && target/wkt
  *
  * It is C11, and C++ as it stands. It finds its file from the repository's root.

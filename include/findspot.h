@@ -1,4 +1,4 @@
-/* The C entry of the findspot engine. Link target/staticlib/libcapi.a, which `rt staticlib capi` makes: x86-64 code, for C11 and C++11 on. */
+/* The C entry of the findspot engine. Link target/staticlib/libcapi.a, which `tools/build capi` makes: x86-64 code, for C11 and C++11 on. */
 #ifndef FINDSPOT_H
 #define FINDSPOT_H
 

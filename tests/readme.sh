@@ -2,9 +2,9 @@
 # Runs the commands of README.md as they stand there, in a fresh clone of this repository's last commit, and compares what they write
 # where README shows it.
 #
-#   tests/readme.sh           every command, from nothing: `rt check` and `.ci/run` prove every crate, and the first reply of ./findspot has
-#                             to show how far its build is
-#   tests/readme.sh --quick   all but these two, over a copy of this folder's target/, so that no library is proved anew
+#   tests/readme.sh           every command: `rt all check` and `.ci/run` prove every crate, and the first reply of ./findspot has to show how
+#                             far its build is
+#   tests/readme.sh --quick   all but these two
 #   tests/readme.sh --list    says what it would run, and runs nothing
 #
 # A block of README is four spaces deep, or fenced. One whose first line begins with one of the words below is commands, one a line. A block
@@ -17,8 +17,8 @@ if [ -z "${POLYCLIP_SRC:-}" ] && [ -d ../shared/docs/src/src ]; then
     POLYCLIP_SRC=$(cd ../shared/docs/src/src && pwd -P)
     export POLYCLIP_SRC
 fi
-first_words=' rt .ci/run ./findspot cc cargo python3 '
-long_ones=' rt check;.ci/run;'
+first_words=' rt .ci/run ./findspot tools/build cc cargo python3 '
+long_ones=' rt all check;.ci/run;'
 mode=whole
 case ${1:-} in
 '') ;;
@@ -41,10 +41,7 @@ builds=1
 
 # The clone in which the commands are run.
 make_clone() {
-    git clone --quiet "$root" "$work/clone" || return 1
-    if [ "$mode" = quick ] && [ -d target ]; then
-        cp -a target "$work/clone/target" || return 1
-    fi
+    git clone --quiet "$root" "$work/clone"
 }
 
 fail() {

@@ -1,4 +1,4 @@
-//! Links the static library of the proved engine, libcapi.a, which `rt staticlib capi` makes in the repository's root.
+//! Links the static library of the proved engine, libcapi.a, which `tools/build capi` makes in the repository's root.
 
 use std::env;
 use std::path::PathBuf;
@@ -29,7 +29,7 @@ fn link() -> Result<(), String> {
     println!("cargo::rerun-if-changed={}", library.display());
     if !library.is_file() {
         return Err(format!(
-            "{} is missing: run `rt staticlib {LIBRARY}` in the repository's root, or let {VARIABLE} name the folder that holds lib{LIBRARY}.a",
+            "{} is missing: run `tools/build {LIBRARY}` in the repository's root, or let {VARIABLE} name the folder that holds lib{LIBRARY}.a",
             library.display()
         ));
     }

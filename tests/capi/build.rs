@@ -1,4 +1,4 @@
-//! Links the static library of the C entry, which `rt staticlib capi` makes in the repository's root.
+//! Links the static library of the C entry, which `tools/build capi` makes in the repository's root.
 
 use std::env;
 use std::path::PathBuf;
@@ -18,7 +18,7 @@ fn main() {
         println!("cargo::rustc-link-lib=static={LIBRARY}");
     } else {
         println!(
-            "cargo::error={FOLDER}/{file} is missing: `rt staticlib capi` in the repository's root makes it"
+            "cargo::error={FOLDER}/{file} is missing: `tools/build capi` in the repository's root makes it"
         );
     }
 }

@@ -1,4 +1,4 @@
-//! Links the static library of what tests ask beside the exports, which `rt staticlib testing` makes in the repository's root.
+//! Links the static library of what tests ask beside the exports, which `tools/build testing` makes in the repository's root.
 
 use std::env;
 use std::path::PathBuf;
@@ -18,7 +18,7 @@ fn main() {
         println!("cargo::rustc-link-lib=static={LIBRARY}");
     } else {
         println!(
-            "cargo::error={FOLDER}/{file} is missing: `rt staticlib testing` in the repository's root makes it"
+            "cargo::error={FOLDER}/{file} is missing: `tools/build testing` in the repository's root makes it"
         );
     }
 }
