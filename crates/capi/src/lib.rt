@@ -1,4 +1,6 @@
 // The C entry for the server (document 01, item 11), and the exports for one that keeps prepared plans.
+#![tactic(auto)]
+
 ghost use Rattle.std.specs.Prelude.{◌≡◌};
 ghost use Rattle.rules.specs.Numbers.{reply_number};
 ghost use Rattle.capi.specs.Replies.{text_reply, Roomy};

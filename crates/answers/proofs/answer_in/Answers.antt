@@ -25,12 +25,11 @@ was_given : (c : In-Read) → Given (take c.first_query-place.result.from c.args
 was_given c = given (take c.first_query-place.result.from c.args.input.now) 1024 256 256 c.in-Read.size (sym c.in-Read.is ∙ read_as (goal.at.In-Read c).After-read_plan)
 
 -- the tables start with it
-held : (c : In-Read) → let r = c.read_plan in let s = c.in-Read.size in ◌≡◌ {A = Plan} (record { kind = s.kind; coordinates = take (2 * s.corners-1) r.new.corners; lengths = take s.rings r.new.lengths; counts = take s.polygons r.new.counts }) (was_given c).plan
+held : (c : In-Read) → let r = c.read_plan in let s = c.in-Read.size in ◌≡◌ {A = Plan} (record { kind = s.kind; coordinates = take (2 * s.corners) r.new.corners; lengths = take s.rings r.new.lengths; counts = take s.polygons r.new.counts }) (was_given c).plan
 held c =
     let a = c.args in
     let r = c.read_plan in
-    let s = c.size.given in
-    plan_held_lem (take c.first_query-place.result.from a.input.now) 1024 256 256 s.0.0 (was_given c) a.corners.now r.new.corners a.lengths.now r.new.lengths a.counts.now r.new.counts (rw s.1 at r.ensures.corners_written) (rw s.1 at r.ensures.lengths_written) (rw s.1 at r.ensures.counts_written)
+    plan_held_lem (take c.first_query-place.result.from a.input.now) 1024 256 256 c.in-Read.size (was_given c) a.corners.now r.new.corners a.lengths.now r.new.lengths a.counts.now r.new.counts (rw c.in-Read.is at r.ensures.corners_written) (rw c.in-Read.is at r.ensures.lengths_written) (rw c.in-Read.is at r.ensures.counts_written)
 
 pub slice_bounds-read_plan-end : goal.slice_bounds-read_plan-end
 slice_bounds-read_plan-end c = let w = c.first_query-place.ensures.within in simp length-take (omega arith)

@@ -18,25 +18,25 @@ given s = handed s.args.kind s.args.coordinates.now s.args.lengths.now s.args.co
 
 -- the tables that preparing leaves
 abbrev left : After-prepare → Tables
-left c = let t = c.prepare.new.1.1.1.1 in record { corners = t.0; rings = t.1.0; polygons = t.1.1.0; boxes = t.1.1.1.0; parts = t.1.1.1.1.0; edges = t.1.1.1.1.1.0 }
+left c = let t = c.prepare.new in record { corners = t.corners; rings = t.rings; polygons = t.polygons; boxes = t.boxes; parts = t.parts; edges = t.edges }
 
 -- the tables before it: zeros, of the ceilings' lengths
 abbrev zeros : Tables
 zeros = record { corners = replicate 1024 (pos 0); rings = replicate 256 0; polygons = replicate 256 0; boxes = replicate 127 (replicate 4 (pos 0)); parts = replicate 127 (replicate 3 0); edges = replicate 512 0 }
 
 -- what preparing says
-said : (c : After-prepare) → Prepared (given c.before.before.before.before.before.before.before.before.before.before.before) zeros (left c) c.prepare.result
+said : (c : After-prepare) → Prepared (given (goal.at.After-prepare c).Start) zeros (left c) c.prepare.result
 said c = c.prepare.ensures
 
 -- the plan is prepared
-was_prepared : (c : In-Ready) → let r = c in Prepared (given r.before.before.before.before.before.before.before.before.before.before.before) zeros (left r) (Ready c.in-Ready.state c.in-Ready.field-1)
-was_prepared c = let r = c in subst (Prepared (given r.before.before.before.before.before.before.before.before.before.before.before) zeros (left r)) c.in-Ready.is (said (goal.at.In-Ready c).After-prepare)
+was_prepared : (c : In-Ready) → Prepared (given (goal.at.In-Ready c).Start) zeros (left (goal.at.In-Ready c).After-prepare) (Ready c.in-Ready.state c.in-Ready.field-1)
+was_prepared c = subst (Prepared (given (goal.at.In-Ready c).Start) zeros (left (goal.at.In-Ready c).After-prepare)) c.in-Ready.is (said (goal.at.In-Ready c).After-prepare)
 
 pub put_replies-requires : goal.put_replies-requires
-put_replies-requires c = let s = c in let g = c.state.given.0 in let p = was_prepared (goal.at.put_replies-requires c).In-Ready in (tables_prepared (given s) zeros (left c.before.before.before.before.before.before.before.before.before.before.before.before.before.before.before.before) g.0 g.1.0 p, due_held (given s) zeros (left c.before.before.before.before.before.before.before.before.before.before.before.before.before.before.before.before) g.0 g.1.0 p s.args.input.now s.args.first s.args.number s.args.output.now s.requires.1)
+put_replies-requires c = let s = c in let p = was_prepared (goal.at.put_replies-requires c).In-Ready in (tables_prepared (given (goal.at.put_replies-requires c).Start) zeros (left (goal.at.put_replies-requires c).After-prepare) c.in-Ready.state c.in-Ready.field-1 p, due_held (given (goal.at.put_replies-requires c).Start) zeros (left (goal.at.put_replies-requires c).After-prepare) c.in-Ready.state c.in-Ready.field-1 p s.args.input.now s.args.first s.args.number s.args.output.now s.requires.1)
 
 pub returns-in-Ready : goal.returns-in-Ready
-returns-in-Ready c = let s = c in let g = c.state.given.0 in let p = was_prepared (goal.at.returns-in-Ready c).In-Ready in wrote_same _ _ s.args.output.now _ c.put_replies.result (replies_held (given s) zeros (left c.before.before.before.before.before.before.before.before.before.before.before.before.before.before.before.before.before.before.before) g.0 g.1.0 p s.args.number (split 10 (drop s.args.first s.args.input.now))) c.put_replies.ensures
+returns-in-Ready c = let s = c in let p = was_prepared (goal.at.returns-in-Ready c).In-Ready in wrote_same _ _ s.args.output.now _ c.put_replies.result (replies_held (given (goal.at.returns-in-Ready c).Start) zeros (left (goal.at.returns-in-Ready c).After-prepare) c.in-Ready.state c.in-Ready.field-1 p s.args.number (split 10 (drop s.args.first s.args.input.now))) c.put_replies.ensures
 
 pub returns-in-Refused : goal.returns-in-Refused
-returns-in-Refused c = let s = c in let r = c in never_unprepared (given s) s.requires.0 zeros (left r) c.in-Refused.field-0 refl (subst (Prepared (given s) zeros (left r)) c.in-Refused.is (said (goal.at.returns-in-Refused c).After-prepare))
+returns-in-Refused c = let s = c in let r = c in never_unprepared (given (goal.at.returns-in-Refused c).Start) s.requires.0 zeros (left (goal.at.returns-in-Refused c).After-prepare) c.in-Refused.field-0 refl (subst (Prepared (given (goal.at.returns-in-Refused c).Start) zeros (left (goal.at.returns-in-Refused c).After-prepare)) c.in-Refused.is (said (goal.at.returns-in-Refused c).After-prepare))

@@ -1,0 +1,20 @@
+-- `testing::leaves::testing_pair` meets its contract.
+use mathlib.Core.Path.{◌∙◌}
+use lib.IntN.{◌-ℤ◌}
+use Rattle.integers.specs.Extremes.{min_z, max_z}
+use Rattle.integers.proofs.Bits.{read₂, got₂}
+use Rattle.testing.proofs.leaves.testing_pair.Goals as goal
+
+pub returns : goal.returns
+returns c =
+    let s = c in
+    let a = s.args.a in
+    let b = s.args.b in
+    let fa = s.ranges.a in
+    let fb = s.ranges.b in
+    let m = c.min in
+    record {
+      least = got₂ min_z a b m.result fa fb (record { sfits = m.type_inv }) m.ensures;
+      greatest = got₂ max_z a b c.max.result fa fb (record { sfits = c.max.type_inv }) c.max.ensures;
+      difference = c.difference-d.ensures ∙ read₂ ◌-ℤ◌ a b fa fb;
+    }

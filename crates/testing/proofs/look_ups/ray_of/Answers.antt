@@ -1,0 +1,20 @@
+-- `testing::look_ups::ray_of` meets its contract.
+use mathlib.Core.Path.{sym, ap, ◌∙◌}
+use mathlib.Core.Bool.{cond}
+use borrow.Author.Tests.{ne_eqb}
+use Rattle.rules.specs.declared.Ray.TheVariants.{Up, Down}
+use Rattle.states.proofs.Numbered.{by_other}
+use Rattle.testing.specs.Named.{ray_named}
+use Rattle.testing.proofs.look_ups.ray_of.Goals as goal
+
+pub returns-in-0 : goal.returns-in-0
+returns-in-0 c = sym (ap ray_named c.in-0.is)
+
+pub returns-in-1 : goal.returns-in-1
+returns-in-1 c = sym (ap ray_named c.in-1.is)
+
+pub returns-in-2 : goal.returns-in-2
+returns-in-2 c = sym (ap ray_named c.in-2.is)
+
+pub returns-in_default : goal.returns-in_default
+returns-in_default c = sym (by_other _ _ _ c.args.number c.in_default.rest.0.0.1 c.in_default.rest.0.1 ∙ ap (λ t. cond t Up Down) (ne_eqb c.args.number 2 c.in_default.rest.1))
