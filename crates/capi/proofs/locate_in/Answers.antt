@@ -39,11 +39,10 @@ pub returns-in-Read : goal.returns-in-Read
 returns-in-Read c =
     let a = c.args in
     let r = c.read_plan in
-    let s = c.size.given in
     let g = was_given (goal.at.returns-in-Read c).In-Read in
     c.locate.ensures
-    ∙ ap (λ plan. answer (plan_verdict plan) (plan_reply plan a.p)) (plan_held_lem a.text.now (length a.corners.now) (length a.lengths.now) (length a.counts.now) s.0.0 g a.corners.now r.new.corners a.lengths.now r.new.lengths a.counts.now r.new.counts (rw s.1 at r.ensures.corners_written) (rw s.1 at r.ensures.lengths_written) (rw s.1 at r.ensures.counts_written))
-    ∙ reply_is a.text.now (length a.corners.now) (length a.lengths.now) (length a.counts.now) s.0.0 g a.p
+    ∙ ap (λ plan. answer (plan_verdict plan) (plan_reply plan a.p)) (plan_held_lem a.text.now (length a.corners.now) (length a.lengths.now) (length a.counts.now) c.in-Read.size g a.corners.now r.new.corners a.lengths.now r.new.lengths a.counts.now r.new.counts (rw c.in-Read.is at r.ensures.corners_written) (rw c.in-Read.is at r.ensures.lengths_written) (rw c.in-Read.is at r.ensures.counts_written))
+    ∙ reply_is a.text.now (length a.corners.now) (length a.lengths.now) (length a.counts.now) c.in-Read.size g a.p
 
 pub returns-in-Refused : goal.returns-in-Refused
 returns-in-Refused c =
