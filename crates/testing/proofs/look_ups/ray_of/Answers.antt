@@ -16,5 +16,3 @@ returns-in-1 c = sym (ap ray_named c.in-1.is)
 pub returns-in-2 : goal.returns-in-2
 returns-in-2 c = sym (ap ray_named c.in-2.is)
 
-pub returns-in_default : goal.returns-in_default
-returns-in_default c = sym (by_other _ _ _ c.args.number c.in_default.rest.0.0.1 c.in_default.rest.0.1 ∙ ap (λ t. cond t Up Down) (ne_eqb c.args.number 2 c.in_default.rest.1))
