@@ -119,7 +119,7 @@ pub extern "C" fn findspot_prepare(
     parts: &mut [[usize; 3]],
     edges: &mut [usize],
 ) -> PrepareAnswer
-    ensures { PrepareSays (kind_named kind) (λ k preparing. Prepared (record { kind = k; coordinates = coordinates.now; lengths = lengths.now; counts = counts.now }) (record { corners = corners.entry.now; rings = rings.old; polygons = polygons.old; boxes = boxes.old; parts = parts.old; edges = edges.old }) (record { corners = corners.exit.now; rings = rings.new; polygons = polygons.new; boxes = boxes.new; parts = parts.new; edges = edges.new }) preparing) (◌≡◌ {A = Tables} (record { corners = corners.exit.now; rings = rings.new; polygons = polygons.new; boxes = boxes.new; parts = parts.new; edges = edges.new }) (record { corners = corners.entry.now; rings = rings.old; polygons = polygons.old; boxes = boxes.old; parts = parts.old; edges = edges.old })) result }
+    ensures { PrepareSays (kind_named kind) (λ k preparing. Prepared (record { kind = k; coordinates = coordinates.now; lengths = lengths.now; counts = counts.now }) (record { corners = corners.old; rings = rings.old; polygons = polygons.old; boxes = boxes.old; parts = parts.old; edges = edges.old }) (record { corners = corners.new; rings = rings.new; polygons = polygons.new; boxes = boxes.new; parts = parts.new; edges = edges.new }) preparing) (◌≡◌ {A = Tables} (record { corners = corners.new; rings = rings.new; polygons = polygons.new; boxes = boxes.new; parts = parts.new; edges = edges.new }) (record { corners = corners.old; rings = rings.old; polygons = polygons.old; boxes = boxes.old; parts = parts.old; edges = edges.old })) result }
 {
     match kind_of(kind) {
         NamedKind::Unknown => prepare_answer(Preparing::Refused(Refusal::Unsound)),

@@ -135,8 +135,8 @@ fn move_up(listed: &mut [usize], slots: &mut [i64], j: usize)
 // Puts a ring and its slot at place k, in front of those that stand from there to `used`.
 fn insert(listed: &mut [usize], slots: &mut [i64], used: usize, k: usize, ring: usize, slot: i64)
     requires { (k ≤ used) × (used < length listed.old) × (used < length slots.old) }
-    ensures inserted { Inserted 0 listed.old used k ring listed.new }
-    ensures inserted_2 { Inserted (pos 0) slots.old used k slot slots.new }
+    ensures listed_inserted { Inserted 0 listed.old used k ring listed.new }
+    ensures slots_inserted { Inserted (pos 0) slots.old used k slot slots.new }
 {
     let mut j = used;
     while k < j {

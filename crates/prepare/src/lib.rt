@@ -50,7 +50,7 @@ pub fn prepare(
     parts: &mut [[usize; 3]],
     edges: &mut [usize],
 ) -> Preparing
-    ensures { Prepared (record { kind = kind; coordinates = coordinates.now; lengths = lengths.now; counts = counts.now }) (record { corners = corners.entry.now; rings = rings.old; polygons = polygons.old; boxes = boxes.old; parts = parts.old; edges = edges.old }) (record { corners = corners.exit.now; rings = rings.new; polygons = polygons.new; boxes = boxes.new; parts = parts.new; edges = edges.new }) result }
+    ensures { Prepared (record { kind = kind; coordinates = coordinates.now; lengths = lengths.now; counts = counts.now }) (record { corners = corners.old; rings = rings.old; polygons = polygons.old; boxes = boxes.old; parts = parts.old; edges = edges.old }) (record { corners = corners.new; rings = rings.new; polygons = polygons.new; boxes = boxes.new; parts = parts.new; edges = edges.new }) result }
 {
     let room = Room {
         corners: corners.len(),

@@ -45,7 +45,7 @@ pub fn replay(
     calls: &[[i64; 4]],
     answers: &mut [i64],
 ) -> Outcome
-    ensures { Replays (record { kind = kind; coordinates = coordinates.now; lengths = lengths.now; counts = counts.now }) (record { tables = record { corners = corners.entry.now; rings = rings.old; polygons = polygons.old; boxes = boxes.old; parts = parts.old; edges = edges.old }; undo = undo.old; answers = answers.old }) (record { tables = record { corners = corners.exit.now; rings = rings.new; polygons = polygons.new; boxes = boxes.new; parts = parts.new; edges = edges.new }; undo = undo.new; answers = answers.new }) calls.now result }
+    ensures { Replays (record { kind = kind; coordinates = coordinates.now; lengths = lengths.now; counts = counts.now }) (record { tables = record { corners = corners.old; rings = rings.old; polygons = polygons.old; boxes = boxes.old; parts = parts.old; edges = edges.old }; undo = undo.old; answers = answers.old }) (record { tables = record { corners = corners.new; rings = rings.new; polygons = polygons.new; boxes = boxes.new; parts = parts.new; edges = edges.new }; undo = undo.new; answers = answers.new }) calls.now result }
 {
     if let Verdict::Refused(refusal) = judge(kind, coordinates, lengths, counts) {
         return Outcome::Refused(refusal);

@@ -36,7 +36,7 @@ pub extern "C" fn testing_replay(
     calls: &[[i64; 4]],
     answers: &mut [i64],
 ) -> usize
-    ensures { (outcome : Outcome) × Replays (record { kind = list_or_tree (eqb kind 0); coordinates = coordinates.now; lengths = lengths.now; counts = counts.now }) (record { tables = record { corners = corners.entry.now; rings = rings.old; polygons = polygons.old; boxes = boxes.old; parts = parts.old; edges = edges.old }; undo = undo.old; answers = answers.old }) (record { tables = record { corners = corners.exit.now; rings = rings.new; polygons = polygons.new; boxes = boxes.new; parts = parts.new; edges = edges.new }; undo = undo.new; answers = answers.new }) calls.now outcome × (result ≡ replay_number outcome) }
+    ensures { (outcome : Outcome) × Replays (record { kind = list_or_tree (eqb kind 0); coordinates = coordinates.now; lengths = lengths.now; counts = counts.now }) (record { tables = record { corners = corners.old; rings = rings.old; polygons = polygons.old; boxes = boxes.old; parts = parts.old; edges = edges.old }; undo = undo.old; answers = answers.old }) (record { tables = record { corners = corners.new; rings = rings.new; polygons = polygons.new; boxes = boxes.new; parts = parts.new; edges = edges.new }; undo = undo.new; answers = answers.new }) calls.now outcome × (result ≡ replay_number outcome) }
 {
     outcome_number(replay(
         kind_of(kind == 0),

@@ -37,5 +37,5 @@ returns c =
     let a = c.args in
     let slot = rd_is c.counted.result (record { sfits = c.counted.type_inv }) ∙ c.counted.ensures in
     let i = c.insert.ensures in
-    listed_new a.listed.now a.slots.now a.used a.ring c.reaching-k.result a.crossing _ _ c.reaching-k.ensures (λ h e. new c (h, e)) i.inserted
-    (subst (λ (z : ℤ). Inserted (pos 0) a.slots.now a.used c.reaching-k.result z c.insert.new.slots) slot i.inserted_2) c.requires (omega arith)
+    listed_new a.listed.now a.slots.now a.used a.ring c.reaching-k.result a.crossing _ _ c.reaching-k.ensures (λ h e. new c (h, e)) i.listed_inserted
+    (subst (λ (z : ℤ). Inserted (pos 0) a.slots.now a.used c.reaching-k.result z c.insert.new.slots) slot i.slots_inserted) c.requires (omega arith)

@@ -34,4 +34,4 @@ pub returns : goal.returns
 returns c =
     let a = c.args in
     let l = c.loop-j in
-    let e : l.j ≡ a.k = omega arith in record { inserted = shifted_done 0 a.listed.now a.used a.k l.j a.ring l.listed (omega arith) (omega arith) e l.invariant.2; inserted_2 = rw (rd_is a.slot c.ranges.slot) (shifted_done (pos 0) a.slots.now a.used a.k l.j a.slot l.slots (omega arith) (omega arith) e l.invariant.3) }
+    let e : l.j ≡ a.k = omega arith in record { listed_inserted = shifted_done 0 a.listed.now a.used a.k l.j a.ring l.listed (omega arith) (omega arith) e l.invariant.2; slots_inserted = rw (rd_is a.slot c.ranges.slot) (shifted_done (pos 0) a.slots.now a.used a.k l.j a.slot l.slots (omega arith) (omega arith) e l.invariant.3) }
