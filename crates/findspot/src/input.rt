@@ -25,7 +25,7 @@ pub(crate) enum Input {
 
 // One read into a part of the buffer that is not empty.
 fn read_some<R: Read>(source: &mut R, part: &mut [u8]) -> Got
-    ensures { Came part.new result }
+    ensures { Came (R.remaining source.old) (R.remaining source.new) part.new result }
 {
     match source.read(part) {
         Ok(0) => Got::End,
@@ -36,7 +36,7 @@ fn read_some<R: Read>(source: &mut R, part: &mut [u8]) -> Got
 
 /// Reads until the input ends or the buffer is full.
 pub(crate) fn read_input<R: Read>(source: &mut R, buffer: &mut [u8]) -> Input
-    ensures { Holds buffer.new result }
+    ensures { Holds (R.remaining source.old) (R.remaining source.new) buffer.new result }
 {
     let mut held = 0;
     while held < buffer.len() {

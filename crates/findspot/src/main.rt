@@ -1,6 +1,11 @@
 // Says where points lie in a plan: standard input is read to its end, and what `answers::answer` gives for it is written to standard output
-// (document 01, "Trays to try"). Reading and writing alone stand outside the proof.
+// (document 01, "Trays to try"). What is read and written is proved of any reader and writer; that standard input and output are such, as far as
+// the system goes, stands outside the proof.
 #![tactic(auto)]
+
+ghost use Rattle.std.specs.Prelude.{OnOk};
+ghost use Rattle.std.specs.Io.KnownBytes.{Appends};
+ghost use Rattle.answers.specs.Answers.{answered};
 
 mod input;
 
@@ -14,9 +19,12 @@ use std::process::ExitCode;
 const OUTPUT_ROOM: usize = 65536;
 
 // Writes the answer to an input.
-fn reply<W: Write>(input: &[u8], target: &mut W) -> io::Result<()> {
+fn reply<W: Write>(input: &[u8], target: &mut W) -> io::Result<()>
+    ensures { OnOk result (Appends (W.contents target.old) (W.contents target.new) (answered input.now)) }
+{
     let mut output = [0u8; OUTPUT_ROOM];
     let Outcome::Written(count) = answer(input, &mut output) else {
+        // No answer has more bytes than there is room for.
         return Ok(());
     };
     target.write_all(&output[..count])
