@@ -8,7 +8,6 @@ use lib.Dec.{ltb}
 use lib.ListN.{length, length-append}
 use borrow.Author.Tests.{ltb-false}
 use Rattle.fields.specs.declared.Number.{Number}
-use Rattle.fields.specs.declared.Number.TheVariants as Number
 use Rattle.fields.specs.Bytes.{same_bytes}
 use Rattle.fields.specs.Decimals.{number_of}
 use Rattle.fields.specs.Pieces.{split}
@@ -26,7 +25,6 @@ use Rattle.lines.proofs.Spans.{span, span_split}
 use Rattle.asked.specs.declared.Line.{Line}
 use Rattle.asked.specs.declared.Line.TheVariants.{Asks, Malformed}
 use Rattle.asked.specs.declared.Named.{Named}
-use Rattle.asked.specs.declared.Named.TheVariants as Named
 use Rattle.asked.specs.declared.Query.{Query}
 use Rattle.asked.specs.declared.Query.TheVariants.{OnGrid, Doubled}
 use Rattle.asked.specs.Queries.{point_from, point_of, grid_query, half_query, word_query, query_of, asks}

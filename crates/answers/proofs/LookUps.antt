@@ -20,7 +20,6 @@ use Rattle.rules.specs.declared.Location.TheVariants.{Outside}
 use Rattle.rules.specs.declared.Refusal.{Refusal}
 use Rattle.rules.specs.declared.Reply.{Reply}
 use Rattle.rules.specs.declared.Reply.TheVariants.{At}
-use Rattle.rules.specs.declared.Reply.TheVariants as Reply
 use Rattle.rules.specs.declared.State.{State}
 use Rattle.rules.specs.Nodes.{node_count}
 use Rattle.rules.specs.Plans.{Plan, corner_count, plan_in_range, kind_reply, rings_of, plan_reply, plan_half_reply}

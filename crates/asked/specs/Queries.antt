@@ -1,11 +1,9 @@
 -- What a line after the plan asks (document 01, "Trays to try": `coin`, x, y or `half`, doubled x, doubled y).
 use Rattle.std.specs.Prelude.{Bool, false, cond, ◌||◌, List, [], ◌∷◌, ℕ}
 use Rattle.fields.specs.declared.Number.{Number}
-use Rattle.fields.specs.declared.Number.TheVariants as Number
 use Rattle.fields.specs.Bytes.{same_bytes}
 use Rattle.fields.specs.Decimals.{number_of}
 use Rattle.asked.specs.declared.Named.{Named}
-use Rattle.asked.specs.declared.Named.TheVariants as Named
 use Rattle.asked.specs.declared.Query.TheVariants.{OnGrid, Doubled}
 use Rattle.asked.specs.declared.Line.{Line}
 use Rattle.asked.specs.declared.Line.TheVariants.{Asks, Malformed}

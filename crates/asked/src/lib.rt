@@ -1,5 +1,6 @@
 // What a line after the plan asks (document 01, "Trays to try").
 #![tactic(auto)]
+
 ghost use Rattle.std.specs.Prelude.{◌≡◌};
 ghost use Rattle.fields.specs.Pieces.{split};
 ghost use Rattle.asked.specs.Queries.{point_of, grid_query, half_query, word_query, query_of, asks};

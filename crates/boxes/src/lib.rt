@@ -1,6 +1,7 @@
 // The ring of an edge, its two corners and its box, and the smallest box round a part of the edge list, over the lent tables of a
 // prepared plan (document 01, items 1 and 9).
 #![tactic(auto)]
+
 ghost use Rattle.std.specs.Prelude.{◌≡◌, ◌-◌, ◌*◌, ◌<◌, ◌≤◌, length, get_or, set};
 ghost use Rattle.boxes.specs.Rings.{start_of, next_in, in_ring, RingAt, RingEnds};
 ghost use Rattle.boxes.specs.Boxes.{edge_box, box_of, rect_at, row_of, Names};

@@ -13,7 +13,6 @@ use Rattle.geom.specs.declared.Point.{Point}
 use Rattle.rules.specs.declared.Refusal.{Refusal}
 use Rattle.rules.specs.declared.Refusal.TheVariants.{TextTooLong, BadLine}
 use Rattle.rules.specs.declared.Reply.{Reply}
-use Rattle.rules.specs.declared.Reply.TheVariants as Reply
 use Rattle.rules.specs.Plans.{Plan, plan_verdict, plan_reply, answer}
 use Rattle.lines.specs.declared.Size.{Size}
 use Rattle.text.specs.declared.Reading.TheVariants.{Read, Refused}

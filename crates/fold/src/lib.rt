@@ -1,6 +1,7 @@
 // The rules for polygons, lists and trees as a fold over the rings that are met, by rising ring number (document 01, item 4). A ring
 // that is not met is one that the point is outside of, so the work goes by the rings met and not by all that a plan has.
 #![tactic(auto)]
+
 ghost use Rattle.std.specs.Prelude.{◌≡◌};
 ghost use Rattle.rules.specs.declared.Kind.TheVariants.{Polygons, Tree};
 ghost use Rattle.rules.specs.declared.Location.TheVariants.{Inside};

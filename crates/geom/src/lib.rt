@@ -1,5 +1,6 @@
 // Points and closed boxes on the integer grid (src/geom.rs; document 01, item 1).
 #![tactic(auto)]
+
 ghost use Rattle.std.specs.Prelude.{◌≡◌};
 ghost use Rattle.std.specs.Int.Signed.{lt_z};
 ghost use Rattle.geom.specs.Range.{in_range, in_doubled_range};

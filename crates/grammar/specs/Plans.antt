@@ -1,5 +1,5 @@
 -- The plan of the polygons that a text spells (document 02, R-1), and which rings get 22.
-use Rattle.std.specs.Prelude.{Bool, true, false, ◌&&◌, List, [], ◌∷◌, ◌++◌, ℕ, ◌+◌, eqb, ℤ, pos, negsuc, length}
+use Rattle.std.specs.Prelude.{Bool, true, false, ◌&&◌, List, [], ◌∷◌, ◌++◌, ℕ, eqb, ℤ, pos, negsuc, length}
 use Rattle.geom.specs.declared.Point.{Point}
 use Rattle.rules.specs.declared.Kind.TheVariants.{Polygons}
 use Rattle.rules.specs.Plans.{Plan}

@@ -1,5 +1,5 @@
 -- What a text spells, found a byte at a time: so contracts are equations. `means` shows that it is the grammar's (document 02, R-1).
-use Rattle.std.specs.Prelude.{Bool, true, false, cond, List, [], ◌∷◌, ◌++◌, eqb, drop, ℕ, suc, ◌+◌}
+use Rattle.std.specs.Prelude.{Bool, true, false, cond, List, [], ◌∷◌, ◌++◌, eqb, drop, ℕ, suc}
 use Rattle.grammar.specs.Grammar.{Ring, Polygon}
 use Rattle.geom.specs.declared.Point.{Point}
 use Rattle.grammar.specs.Modes.{Place, Mode, start_mode, word_mode, spaced_mode, empty_text_mode, want_member_mode, empty_member_mode, after_member_mode, want_ring_mode, want_x_mode, in_x_mode, want_y_mode, in_y_mode, after_y_mode, after_ring_mode, finished_mode, broken_mode, Event, nothing_event, corner_event, ring_ends_event, polygon_ends_event, next_mode, event_of}

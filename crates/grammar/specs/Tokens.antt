@@ -2,7 +2,6 @@
 use Rattle.std.specs.Prelude.{◌≡◌, Bool, false, List, ℕ, ◌≤◌, ◌<◌, length, get_or}
 use Rattle.grammar.specs.declared.NextByte.{NextByte}
 use Rattle.grammar.specs.declared.numbers.Token.{Token}
-use Rattle.grammar.specs.declared.numbers.Token.TheVariants as Token
 use Rattle.grammar.specs.Numbers.{Whole, Begun, value_begun, is_digit, whole_of}
 use Rattle.grammar.specs.Modes.{Mode, want_x_mode, in_x_mode, want_y_mode, in_y_mode, nothing_event, next_mode, event_of}
 use Rattle.grammar.specs.Spellings.{Spelling, breaks}

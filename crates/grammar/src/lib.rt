@@ -1,5 +1,6 @@
 // Well-Known Text (document 02, R-1): which texts are of it and what they spell; its spaces and numbers read.
 #![tactic(auto)]
+
 ghost use Rattle.std.specs.Prelude.{◌≡◌, ◌≤◌, length, get_or};
 ghost use Rattle.grammar.specs.Tokens.{Skipped, NextRead};
 

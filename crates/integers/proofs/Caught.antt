@@ -1,6 +1,6 @@
 -- Wrong programs that the contracts rule out, whatever their code is: what a promise gives where such a program gives something else.
 -- Assumes nothing.
-use Rattle.std.proofs.Common.{◌≡◌, ℕ, ◌*◌, ◌^◌, ◌<◌, Bool, true, false, not, pos, negsuc, ◌-ℤ◌, refl, arith}
+use Rattle.std.proofs.Common.{◌≡◌, ℕ, ◌*◌, ◌^◌, ◌<◌, Bool, true, false, pos, negsuc, ◌-ℤ◌, refl, arith}
 use Rattle.integers.specs.Halves.{ceiling_half}
 use Rattle.integers.specs.declared.Sign.TheVariants.{Negative, Positive}
 use Rattle.integers.specs.declared.Signed.{Signed}

@@ -1,5 +1,6 @@
 // Exact integers: the leaves that touch 64-bit words. Everything above takes and returns their values.
 #![tactic(auto)]
+
 ghost use Rattle.std.specs.Prelude.{◌≡◌, ◌+◌, ◌*◌, ◌^◌, ◌<◌, pos, ◌+ℤ◌, ◌-ℤ◌, ◌*ℤ◌, if◌then◌else◌, unsigned_abs};
 ghost use Rattle.integers.specs.Extremes.{min_z, max_z};
 ghost use Rattle.integers.specs.Halves.{floor_half, ceiling_half};

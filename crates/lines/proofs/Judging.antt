@@ -8,7 +8,6 @@ use lib.ListN.{length, take, drop, length-take, length-drop}
 use Rattle.fields.specs.Pieces.{up_to, split}
 use Rattle.fields.proofs.Pieces.{search_within}
 use Rattle.lines.specs.declared.stages.Stage.{Stage}
-use Rattle.lines.specs.declared.stages.Stage.TheVariants as Stage
 use Rattle.lines.specs.Plans.{Meaning, start_meaning, gives_meaning, broken_meaning, after_line, at_end, after_lines, meaning}
 use Rattle.lines.specs.Steps.{stage_of, stage_after, stage_at_end, StageCountable, broken_number, broken_line, stage_number, stage_detail, Judged}
 use Rattle.lines.proofs.Counting.{stage_after_lem, stage_at_end_lem}

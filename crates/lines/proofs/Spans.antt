@@ -8,7 +8,6 @@ use lib.Dec.{eqb}
 use lib.IntN.{ℤ}
 use lib.ListN.{length}
 use Rattle.fields.specs.declared.Number.{Number}
-use Rattle.fields.specs.declared.Number.TheVariants as Number
 use Rattle.fields.specs.Bytes.{same_bytes}
 use Rattle.fields.specs.Decimals.{number_of}
 use Rattle.fields.specs.Pieces.{before, split}

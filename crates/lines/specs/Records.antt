@@ -1,7 +1,6 @@
 -- What a line says by its fields (document 01, item 10).
 use Rattle.std.specs.Prelude.{cond, List, [], ◌∷◌, ℕ}
 use Rattle.fields.specs.declared.Number.{Number}
-use Rattle.fields.specs.declared.Number.TheVariants as Number
 use Rattle.fields.specs.Bytes.{same_bytes}
 use Rattle.fields.specs.Decimals.{number_of}
 use Rattle.rules.specs.declared.Kind.TheVariants.{Polygons, Tree}

@@ -1,5 +1,6 @@
 // A plan's text line by line: what each line says, the text judged, and its plan written into tables (document 01, item 10).
 #![tactic(auto)]
+
 pub mod records;
 pub mod stages;
 pub mod tables;

@@ -1,6 +1,7 @@
 // The calls on a prepared plan and their answers, and what of a correction is settled before a table is read (document 01, item 9, "From
 // the state" and "The correction book"). What the calls promise, the correction book and demand 3 stand in specs/ and proofs/.
 #![tactic(auto)]
+
 ghost use Rattle.std.specs.Prelude.{◌≡◌, true};
 ghost use Rattle.model.specs.Numbers.{answer_of, answer_number};
 ghost use Rattle.model.specs.Coded.{is_number, coded, call_of};

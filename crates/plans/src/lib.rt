@@ -1,5 +1,6 @@
 // A plan as it is handed in: its corners, whether they are in range, and refusals 4 and 3 (document 01, items 1 and 6, "From the input").
 #![tactic(auto)]
+
 ghost use Rattle.std.specs.Prelude.{◌≡◌, not, ◌&&◌, ◌||◌, ◌+◌, ◌*◌, ◌<◌, eqb, length};
 ghost use Rattle.rules.specs.Lists.{any_of, total};
 ghost use Rattle.rules.specs.Plans.{corners_of, corner_at, is_list, too_many, uneven, Judged, all_in_range};

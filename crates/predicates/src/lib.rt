@@ -1,5 +1,6 @@
 // Exact predicates on points (src/predicates.rs; document 01, item 2).
 #![tactic(auto)]
+
 ghost use Rattle.std.specs.Prelude.{◌≡◌, true, ◌-ℤ◌, ◌*ℤ◌};
 ghost use Rattle.integers.specs.Signs.{sign_of};
 ghost use Rattle.integers.specs.Words.{wide_value_of};

@@ -1,5 +1,6 @@
 // Preparing a plan: its refusals, and the lent tables filled (document 01, items 5, 6 and 9; `Prepared::new` of src/prepared.rs).
 #![tactic(auto)]
+
 ghost use Rattle.prepare.specs.Tables.{Prepared};
 
 mod refusals;

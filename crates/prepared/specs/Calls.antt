@@ -1,6 +1,5 @@
 -- What look-ups through the boxes promise (document 01, items 6 and 7, refusal 15).
 use Rattle.std.specs.Prelude.{◌≡◌, Bool, true, false, ◌⊎◌, List, ℕ, ◌<◌, ℤ, length}
-use Rattle.geom.specs.declared.Point.{Point}
 use Rattle.rules.specs.declared.Location.{Location}
 use Rattle.rules.specs.declared.Location.TheVariants.{Outside}
 use Rattle.rules.specs.declared.Ray.{Ray}

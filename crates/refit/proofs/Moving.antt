@@ -18,7 +18,7 @@ use Rattle.index.specs.Parts.{first_at, count_at}
 use Rattle.index.specs.Sound.{Smallest, IndexSound}
 use Rattle.index.proofs.Soundness.{part_inside, edge_in, edge_once}
 use Rattle.refit.specs.Paths.{Holds, Found}
-use Rattle.refit.specs.Refits.{refitted, Refit}
+use Rattle.refit.specs.Refits.{Refit}
 use Rattle.refit.proofs.Paths.{holds_left, holds_right, path_holds}
 use Rattle.refit.proofs.Fitting.{refit_smallest}
 

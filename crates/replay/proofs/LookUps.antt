@@ -1,7 +1,7 @@
 -- A look-up through the boxes is a step of a run. Assumes nothing.
 use mathlib.Core.Path.{◌≡◌, refl, sym, ap, ◌∙◌}
 use mathlib.Core.Bool.{Bool, true, false}
-use mathlib.Core.Logic.{◌⊎◌, inl, inr, ⊎_elim}
+use mathlib.Core.Logic.{inl, inr, ⊎_elim}
 use Prim.Native.Nat.{◌≤◌}
 use lib.ListN.{length}
 use Rattle.geom.specs.declared.Point.{Point}

@@ -1,6 +1,6 @@
 -- Flags: conjunctions, disjunctions and parity. Assumes nothing.
 use mathlib.Core.Path.{◌≡◌, refl, sym, ◌∙◌, ap, subst}
-use mathlib.Core.Bool.{Bool, true, false, not, ◌&&◌, ◌||◌}
+use mathlib.Core.Bool.{Bool, true, false, not, ◌||◌}
 use lib.Dec.{T}
 use Rattle.rules.specs.Lists.{xor}
 

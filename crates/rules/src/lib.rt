@@ -1,5 +1,6 @@
 // The words of document 01: places, refusals, replies, and the number of each.
 #![tactic(auto)]
+
 ghost use Rattle.std.specs.Prelude.{◌≡◌};
 ghost use Rattle.rules.specs.Numbers.{location_number, table_number, refusal_number, refusal_detail, reply_number};
 ghost use Rattle.rules.specs.Plans.{is_list};

@@ -11,9 +11,7 @@ use Rattle.grammar.specs.Plans.{is_closed, numbers_of, coordinates}
 use Rattle.grammar.specs.Plans as Plans
 use Rattle.scanner.specs.declared.Extent.{Extent}
 use Rattle.scanner.specs.declared.Scan.{Scan}
-use Rattle.scanner.specs.declared.Scan.TheVariants as Scan
 use Rattle.scanner.specs.declared.positions.Position.{Position}
-use Rattle.scanner.specs.declared.positions.Position.TheVariants as Position
 use Rattle.scanner.specs.Puts.{put}
 use Rattle.scanner.specs.Extents.{no_extent, with_ring, with_all, Counted}
 

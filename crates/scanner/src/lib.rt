@@ -1,5 +1,6 @@
 // A text of Well-Known Text scanned (document 02, R-1): what it spells, counted, and stored as far as tables reach.
 #![tactic(auto)]
+
 ghost use Rattle.std.specs.Prelude.{◌≡◌};
 ghost use Rattle.scanner.specs.Extents.{no_extent};
 

@@ -1,5 +1,6 @@
 // Kinds and states as 64-bit numbers, as they cross the C boundary.
 #![tactic(auto)]
+
 ghost use Rattle.std.specs.Prelude.{◌≡◌};
 ghost use Rattle.states.specs.States.{kind_named, kind_number, mark_number, with_kind, state_named, state_numbers};
 

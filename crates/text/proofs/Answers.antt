@@ -17,7 +17,6 @@ use Rattle.lines.specs.declared.Size.{Size}
 use Rattle.text.specs.declared.Reading.{Reading}
 use Rattle.text.specs.declared.Reading.TheVariants.{Read, Refused}
 use Rattle.lines.specs.declared.stages.Stage.{Stage}
-use Rattle.lines.specs.declared.stages.Stage.TheVariants as Stage
 use Rattle.lines.specs.Plans.{Meaning, start_meaning, gives_meaning, broken_meaning, meaning, size_of}
 use Rattle.text.specs.Readings.{reading_number, reading_detail, with_room, reading_of, reading, short_table, number_of, detail_of, number_due, detail_due, written, PlanRead}
 use Rattle.lines.specs.Steps.{stage_of, Ready}

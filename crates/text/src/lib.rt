@@ -1,5 +1,6 @@
 // Plans as text: reading one, and line k of a text (document 01, item 10).
 #![tactic(auto)]
+
 ghost use Rattle.std.specs.Prelude.{◌≡◌};
 ghost use Rattle.text.specs.Lines.{line_of, LineSpan};
 ghost use Rattle.text.specs.Readings.{with_room, reading, PlanRead};

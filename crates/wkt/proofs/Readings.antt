@@ -28,7 +28,6 @@ use Rattle.grammar.proofs.Means.{means}
 use Rattle.grammar.proofs.Tables.{coordinates_twice}
 use Rattle.scanner.specs.declared.Extent.{Extent}
 use Rattle.scanner.specs.declared.Scan.{Scan}
-use Rattle.scanner.specs.declared.Scan.TheVariants as Scan
 use Rattle.scanner.specs.Puts.{put}
 use Rattle.scanner.specs.Scanned.{TextScanned}
 use Rattle.scanner.proofs.Puts.{put_all}

@@ -15,7 +15,6 @@ use Rattle.rules.specs.declared.Refusal.{Refusal}
 use Rattle.rules.specs.declared.Refusal.TheVariants.{TextTooLong, TableTooShort, Unclosed, TooMany, Uneven}
 use Rattle.rules.specs.declared.Table.TheVariants.{Output}
 use Rattle.rules.specs.declared.Verdict.{Verdict}
-use Rattle.rules.specs.declared.Verdict.TheVariants as Verdict
 use Rattle.rules.specs.Lists.{any_of}
 use Rattle.rules.specs.Plans.{Plan, is_list, too_many, uneven, plan_verdict}
 use Rattle.grammar.specs.Texts.{wkt_of}

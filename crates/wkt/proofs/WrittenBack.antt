@@ -14,7 +14,7 @@ use Rattle.grammar.specs.Spellings.{spells}
 use Rattle.grammar.specs.Scans.{spelling}
 use Rattle.grammar.specs.Texts.{wkt_of}
 use Rattle.grammar.specs.Plans.{every_closed, plan_spelt}
-use Rattle.writer.specs.Drawn.{list_of, Drawn, closed_polygons}
+use Rattle.writer.specs.Drawn.{Drawn, closed_polygons}
 use Rattle.writer.proofs.Back.{spelt_back, closed_back, plan_back}
 use Rattle.wkt.specs.declared.write.Writing.TheVariants.{Written}
 use Rattle.wkt.specs.Writings.{writing, Answered, WktWritten}

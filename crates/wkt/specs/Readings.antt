@@ -14,7 +14,6 @@ use Rattle.grammar.specs.Scans.{spelling}
 use Rattle.grammar.specs.Plans.{every_closed, plan_spelt}
 use Rattle.scanner.specs.declared.Extent.{Extent}
 use Rattle.scanner.specs.declared.Scan.{Scan}
-use Rattle.scanner.specs.declared.Scan.TheVariants as Scan
 use Rattle.scanner.specs.Extents.{no_extent, with_all}
 
 -- the plan that a text spells

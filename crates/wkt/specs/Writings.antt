@@ -5,7 +5,6 @@ use Rattle.fields.specs.Written.{overwritten}
 use Rattle.rules.specs.declared.Refusal.TheVariants.{TextTooLong, TableTooShort, Unsound, Unclosed}
 use Rattle.rules.specs.declared.Table.TheVariants.{Output}
 use Rattle.rules.specs.declared.Verdict.{Verdict}
-use Rattle.rules.specs.declared.Verdict.TheVariants as Verdict
 use Rattle.rules.specs.Lists.{any_of}
 use Rattle.rules.specs.Numbers.{refusal_number, refusal_detail}
 use Rattle.rules.specs.Plans.{Plan, is_list, too_many, uneven, plan_verdict}

@@ -1,5 +1,5 @@
 -- What the writer asks of a plan, and the parts of a written list (document 02, R-1).
-use Rattle.std.specs.Prelude.{◌≡◌, false, List, [], ◌∷◌, ◌++◌, map, ℕ, zero, suc, ◌+◌, ◌≤◌, eqb, ℤ, length}
+use Rattle.std.specs.Prelude.{◌≡◌, false, List, [], ◌∷◌, ◌++◌, map, ℕ, zero, suc, ◌≤◌, eqb, ℤ, length}
 use Rattle.rules.specs.declared.Kind.TheVariants.{Polygons}
 use Rattle.rules.specs.declared.Verdict.TheVariants.{Accepted}
 use Rattle.rules.specs.Lists.{any_of, total, parts_of}

@@ -1,5 +1,6 @@
 // A list plan written as Well-Known Text (document 02, R-1).
 #![tactic(auto)]
+
 ghost use Rattle.std.specs.Prelude.{◌≡◌, ◌+◌, ◌*◌, ◌^◌, ◌≤◌, ◌<◌, ◌++◌, length};
 ghost use Rattle.fields.specs.Written.{Wrote};
 ghost use Rattle.rules.specs.Lists.{total};

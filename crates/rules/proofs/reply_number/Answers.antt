@@ -1,7 +1,7 @@
 -- `rules::reply_number` meets its contract: the numbers are small.
 use mathlib.Core.Path.{sym, ap, subst, ◌∙◌}
 use lib.IntN.{pos, neg_ℤ}
-use Rattle.rules.specs.Numbers.{reply_number, location_number, refusal_number}
+use Rattle.rules.specs.Numbers.{reply_number}
 use Rattle.rules.proofs.SmallNumbers.{Small, location_small, refusal_small, small_fits, small_is, minus_fits, minus_is}
 use Rattle.rules.proofs.reply_number.Goals as goal
 

@@ -38,8 +38,10 @@ loop-i-preserved c =
     let a = c.args in
     let few : l.i < a.hi = omega arith in
     rw c.swap.ensures (
-      elim c.if-x-v.branch [ then-x-v w ↦ rw w.s-is (parting_in a.lo a.hi a.v a.values.now l.values l.s l.i l.invariant.0 few c.requires.1 w.if-x-v.true)
-        | else-x-v w ↦ rw w.s-is (parting_out a.lo a.hi a.v a.values.now l.values l.s l.i l.invariant.0 few c.requires.1 w.if-x-v.false) ],
+      elim c.if-x-v.branch [
+        | then-x-v w ↦ rw w.s-is (parting_in a.lo a.hi a.v a.values.now l.values l.s l.i l.invariant.0 few c.requires.1 w.if-x-v.true)
+        | else-x-v w ↦ rw w.s-is (parting_out a.lo a.hi a.v a.values.now l.values l.s l.i l.invariant.0 few c.requires.1 w.if-x-v.false)
+      ],
       length_swapped l.s l.i l.values ∙ l.invariant.1,
       omega arith,
     )

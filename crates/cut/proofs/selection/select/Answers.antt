@@ -54,16 +54,18 @@ loop-preserved c =
     let split = c.partition-split in
     let a = c.args in
     let l = c.loop in
-    elim c.if-middle-s.branch [ then-middle-s w ↦ rw (w.p-is, w.q-is, w.a-is, w.b-is, split.ensures.read) (
-      rounds_left a.lo a.middle a.hi a.values.now l.values l.p l.q l.a l.b l.reads l.counter l.invariant.0 split.new.values split.result.place
-          split.ensures.parted c.requires.3 (omega arith) (omega arith) (omega arith) (omega arith) w.if-middle-s.true,
-      omega arith,
-    )
-    | else-middle-s w ↦ rw (w.p-is, w.q-is, w.a-is, w.b-is, split.ensures.read) (
-      rounds_right a.lo a.middle a.hi a.values.now l.values l.p l.q l.a l.b l.reads l.counter l.invariant.0 split.new.values split.result.place
-          split.ensures.parted c.requires.3 (omega arith) (omega arith) (omega arith) (omega arith) w.if-middle-s.false,
-      omega arith,
-    ) ]
+    elim c.if-middle-s.branch [
+      | then-middle-s w ↦ rw (w.p-is, w.q-is, w.a-is, w.b-is, split.ensures.read) (
+        rounds_left a.lo a.middle a.hi a.values.now l.values l.p l.q l.a l.b l.reads l.counter l.invariant.0 split.new.values split.result.place
+            split.ensures.parted c.requires.3 (omega arith) (omega arith) (omega arith) (omega arith) w.if-middle-s.true,
+        omega arith,
+      )
+      | else-middle-s w ↦ rw (w.p-is, w.q-is, w.a-is, w.b-is, split.ensures.read) (
+        rounds_right a.lo a.middle a.hi a.values.now l.values l.p l.q l.a l.b l.reads l.counter l.invariant.0 split.new.values split.result.place
+            split.ensures.parted c.requires.3 (omega arith) (omega arith) (omega arith) (omega arith) w.if-middle-s.false,
+        omega arith,
+      )
+    ]
 
 pub shape_of-values : goal.shape_of-values
 shape_of-values c = c.loop.invariant.0.state.kept

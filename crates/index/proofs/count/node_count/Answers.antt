@@ -42,8 +42,10 @@ loop-size-preserved c =
     let n = c.args.n in
     let l = c.loop-size in
     let cut = c.loop-size-test.true in
-    elim c.if-size-eq0.branch [ then-size-eq0 w ↦ rw (w.lesser-is, w.greater-is) (level_even n l.above l.size l.lesser l.greater l.invariant cut w.if-size-eq0.true)
-      | else-size-eq0 w ↦ rw (w.lesser-is, w.greater-is) (level_odd n l.above l.size l.lesser l.greater l.invariant cut w.if-size-eq0.false) ]
+    elim c.if-size-eq0.branch [
+      | then-size-eq0 w ↦ rw (w.lesser-is, w.greater-is) (level_even n l.above l.size l.lesser l.greater l.invariant cut w.if-size-eq0.true)
+      | else-size-eq0 w ↦ rw (w.lesser-is, w.greater-is) (level_odd n l.above l.size l.lesser l.greater l.invariant cut w.if-size-eq0.false)
+    ]
 
 pub overflow_add-result : goal.overflow_add-result
 overflow_add-result c = omega (arith, few (goal.at.overflow_add-result c).At-loop-size)

@@ -1,9 +1,5 @@
 -- `testing::look_ups::ray_of` meets its contract.
-use mathlib.Core.Path.{sym, ap, ◌∙◌}
-use mathlib.Core.Bool.{cond}
-use borrow.Author.Tests.{ne_eqb}
-use Rattle.rules.specs.declared.Ray.TheVariants.{Up, Down}
-use Rattle.states.proofs.Numbered.{by_other}
+use mathlib.Core.Path.{sym, ap}
 use Rattle.testing.specs.Named.{ray_named}
 use Rattle.testing.proofs.look_ups.ray_of.Goals as goal
 
@@ -15,4 +11,3 @@ returns-in-1 c = sym (ap ray_named c.in-1.is)
 
 pub returns-in-2 : goal.returns-in-2
 returns-in-2 c = sym (ap ray_named c.in-2.is)
-
