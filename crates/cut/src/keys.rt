@@ -103,7 +103,7 @@ pub fn cut_part(
     requires corners_near { CornersNear n corners.now }
     requires ring_ends { RingEnds n count rings.now }
     requires names { Names n edges.old first size }
-    requires size_nonzero { (0 < size) × (first + size ≤ n) }
+    requires part_inside { (0 < size) × (first + size ≤ n) }
     ensures { CutPart corners.now rings.now axis first size edges.old edges.new result }
 {
     pack(corners, rings, edges, n, count, axis, first, size);

@@ -108,7 +108,7 @@ fn note_leaf(
     slots: &mut [i64],
 ) -> Noted
     requires room { Room layout (length listed.old) (length slots.old) }
-    requires count_bound { (count ≤ 65536) × (at ≤ to) × (to ≤ length edges.now) }
+    requires leaf_bounds { (count ≤ 65536) × (at ≤ to) × (to ≤ length edges.now) }
     ensures { LeafNoted n count corners.now rings.now edges.now ray p at to layout listed.old slots.old listed.new slots.new result }
 {
     let mut here = layout;

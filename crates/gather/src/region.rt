@@ -97,7 +97,7 @@ fn region_by(
     slots: &mut [i64],
 ) -> Region
     requires room { Room layout (length listed.old) (length slots.old) }
-    requires rings_bound { (state.rings ≤ 65536) × (kind ≡ state.kind) × (polygon_count ≡ polygons_in state.kind state.polygons) × (query ≡ Meeting (ray_rect ray (rect_at boxes.now 0) p)) }
+    requires as_stated { (state.rings ≤ 65536) × (kind ≡ state.kind) × (polygon_count ≡ polygons_in state.kind state.polygons) × (query ≡ Meeting (ray_rect ray (rect_at boxes.now 0) p)) }
     ensures { RegionSays (is_listed layout) (LookSound state corners.now rings.now polygons.now boxes.now parts.now edges.now × Tallied state.rings [] layout listed.old slots.old) (region_reply (plan_of state corners.now rings.now polygons.now) p) result }
 {
     let n = state.corners;

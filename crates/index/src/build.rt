@@ -87,7 +87,7 @@ fn cut_node(
     requires p_lt_free { (p < free) × (free + 1 < length boxes.old) × (free + 1 < length parts.old) }
     requires near_rect { NearRect (rect_at boxes.old p) }
     requires names { Names n edges.old (first_at parts.old p) (count_at parts.old p) }
-    requires p_nonzero { (0 < count_at parts.old p) × (first_at parts.old p + count_at parts.old p ≤ n) }
+    requires part_inside { (0 < count_at parts.old p) × (first_at parts.old p + count_at parts.old p ≤ n) }
     ensures { NodeCut corners.now rings.now boxes.old parts.old edges.old p free boxes.new parts.new edges.new result }
 {
     let first = parts[p][0];

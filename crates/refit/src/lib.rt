@@ -72,7 +72,7 @@ fn step_to(parts: &[[usize; 3]], n: usize, nodes: usize, k: usize, p: usize) -> 
 // The nodes on whose side place k lies, the root first: on sound tables those whose parts hold it. Only the path is written.
 fn path_to(path: &mut [usize], parts: &[[usize; 3]], n: usize, nodes: usize, k: usize) -> Way
     requires in_bounds { (18 ≤ length path.old) × (nodes ≤ length parts.now) }
-    requires nodes_value { (nodes ≡ node_count n) × (k < n) }
+    requires index_place { (nodes ≡ node_count n) × (k < n) }
     ensures path_says { PathSays n parts.now nodes k path.new result }
     ensures kept_from { KeptFrom 18 path.old path.new }
 {
@@ -110,7 +110,7 @@ fn put_stops(
     first: usize,
     size: usize,
 ) -> bool
-    requires count_nonzero { (0 < count) × (count ≤ length rings.now) × (get_or rings.now (count - 1) 0 ≡ n) }
+    requires last_ring_ends { (0 < count) × (count ≤ length rings.now) × (get_or rings.now (count - 1) 0 ≡ n) }
     requires size_in_bounds { (first + size ≤ length edges.now) × (size ≤ length stops.old) }
     ensures stops_say { StopsSay n count rings.now edges.now first size stops.new result }
     ensures kept_from { KeptFrom size stops.old stops.new }

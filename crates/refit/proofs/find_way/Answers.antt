@@ -31,7 +31,7 @@ returns-then-not-lent_enough c =
 
 pub path_to-requires : goal.path_to-requires
 path_to-requires c =
-    let L = lent (goal.at.path_to-requires c).Else-not-lent_enough in record { in_bounds = (L.path_reach, omega (arith, L.parts_reach, c.node_count.ensures)); nodes_value = (c.node_count.ensures, L.place) }
+    let L = lent (goal.at.path_to-requires c).Else-not-lent_enough in record { in_bounds = (L.path_reach, omega (arith, L.parts_reach, c.node_count.ensures)); index_place = (c.node_count.ensures, L.place) }
 
 pub overflow_sub-leaf : goal.overflow_sub-leaf
 overflow_sub-leaf c = omega (arith, (found c).leads.some)
@@ -57,7 +57,7 @@ bounds-parts-leaf-in-At c = leaf_in (goal.at.bounds-parts-leaf-in-At c).In-At
 pub put_stops-requires : goal.put_stops-requires
 put_stops-requires c =
     let L = lent (goal.at.put_stops-requires c).Else-not-lent_enough in
-    let leaf = (found (goal.at.put_stops-requires c).In-At).leaf in record { count_nonzero = (L.some, L.rings_reach, L.last_end); size_in_bounds = (omega (arith, leaf.fits, L.edges_reach), omega (arith, leaf.small, L.stops_reach)) }
+    let leaf = (found (goal.at.put_stops-requires c).In-At).leaf in record { last_ring_ends = (L.some, L.rings_reach, L.last_end); size_in_bounds = (omega (arith, leaf.fits, L.edges_reach), omega (arith, leaf.small, L.stops_reach)) }
 
 pub shape_of-path-then-not-put_stops : goal.shape_of-path-then-not-put_stops
 shape_of-path-then-not-put_stops c = c.path_to.auto.path

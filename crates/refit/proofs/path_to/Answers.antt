@@ -29,7 +29,7 @@ pub returns-in-Unsound : goal.returns-in-Unsound
 returns-in-Unsound c =
     let s = c in
     let a = s.args in
-    let l = c.loop-child in record { path_says = never_astray a.n a.parts.now a.nodes a.k s.requires.nodes_value.0 s.requires.nodes_value.1 l.path l.depth l.p l.invariant.1 l.invariant.2 (rw c.in-Unsound.is at c.step_to.ensures); kept_from = kept a.path.now l.path l.invariant.0 }
+    let l = c.loop-child in record { path_says = never_astray a.n a.parts.now a.nodes a.k s.requires.index_place.0 s.requires.index_place.1 l.path l.depth l.p l.invariant.1 l.invariant.2 (rw c.in-Unsound.is at c.step_to.ensures); kept_from = kept a.path.now l.path l.invariant.0 }
 
 pub shape_of-path-in-Leaf : goal.shape_of-path-in-Leaf
 shape_of-path-in-Leaf c = c.loop-child.invariant.0.long ∙ length-set c.args.path.now 0 0
@@ -49,7 +49,7 @@ returns-then-depth-ge-DEPTH c =
     let a = s.args in
     let l = c.loop-child in
     let child = c.in-Down.child in
-    let below = subst (StepSays a.parts.now a.n a.nodes a.k l.p) c.in-Down.is c.step_to.ensures in record { path_says = never_deeper a.n a.parts.now a.nodes a.k s.requires.nodes_value.0 s.requires.nodes_value.1 l.path l.depth l.p l.invariant.1 l.invariant.2 child c.if-depth-ge-DEPTH.true below; kept_from = kept a.path.now l.path l.invariant.0 }
+    let below = subst (StepSays a.parts.now a.n a.nodes a.k l.p) c.in-Down.is c.step_to.ensures in record { path_says = never_deeper a.n a.parts.now a.nodes a.k s.requires.index_place.0 s.requires.index_place.1 l.path l.depth l.p l.invariant.1 l.invariant.2 child c.if-depth-ge-DEPTH.true below; kept_from = kept a.path.now l.path l.invariant.0 }
 
 pub bounds-path-depth : goal.bounds-path-depth
 bounds-path-depth c =

@@ -45,7 +45,7 @@ in_hand c = rw c.in-Leaf.is at c.next_leaf.ensures
 
 pub note_leaf-requires : goal.note_leaf-requires
 note_leaf-requires c =
-    let H = in_hand (goal.at.note_leaf-requires c).In-Leaf in record { room = c.loop-leaf.invariant.1; count_bound = (c.requires.count_bound, omega (arith, H.some), omega (arith, H.going.inside, H.going.lent.edges_reach)) }
+    let H = in_hand (goal.at.note_leaf-requires c).In-Leaf in record { room = c.loop-leaf.invariant.1; leaf_bounds = (c.requires.count_bound, omega (arith, H.some), omega (arith, H.going.inside, H.going.lent.edges_reach)) }
 
 pub shape_of-listed-in-Unsound-note_leaf : goal.shape_of-listed-in-Unsound-note_leaf
 shape_of-listed-in-Unsound-note_leaf c = c.note_leaf.auto.listed ∙ c.loop-leaf.invariant.3

@@ -9,16 +9,16 @@ use Rattle.gather.proofs.collect.note_leaf.Goals as goal
 use Rattle.gather.proofs.collect.note_leaf.Goals.{In-To}
 
 pub loop-k-init : goal.loop-k-init
-loop-k-init c = (omega arith, c.requires.count_bound.1, c.requires.room, refl, refl, refl, λ query few fits ends t. t)
+loop-k-init c = (omega arith, c.requires.leaf_bounds.1, c.requires.room, refl, refl, refl, λ query few fits ends t. t)
 
 pub offset_bounds-edges-k : goal.offset_bounds-edges-k
-offset_bounds-edges-k c = omega (arith, c.loop-k-test.true, c.requires.count_bound.2, c.well_formed)
+offset_bounds-edges-k c = omega (arith, c.loop-k-test.true, c.requires.leaf_bounds.2, c.well_formed)
 
 pub bounds-edges-k : goal.bounds-edges-k
-bounds-edges-k c = omega (arith, c.loop-k-test.true, c.requires.count_bound.2)
+bounds-edges-k c = omega (arith, c.loop-k-test.true, c.requires.leaf_bounds.2)
 
 pub note-requires : goal.note-requires
-note-requires c = record { room = c.loop-k.invariant.2; count_bound = c.requires.count_bound.0 }
+note-requires c = record { room = c.loop-k.invariant.2; count_bound = c.requires.leaf_bounds.0 }
 
 pub shape_of-listed-in-Unsound : goal.shape_of-listed-in-Unsound
 shape_of-listed-in-Unsound c = c.note.auto.listed ∙ c.loop-k.invariant.4

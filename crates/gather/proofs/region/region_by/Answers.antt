@@ -16,7 +16,7 @@ gathered : (c : In-Whole) → Gathered c.args.state.corners c.args.state.rings c
 gathered c = rw c.in-Whole.is at c.collect.ensures
 
 pub fold_slots-requires : goal.fold_slots-requires
-fold_slots-requires c = record { room = (gathered (goal.at.fold_slots-requires c).In-Whole).room; count_bound = c.requires.rings_bound.0 }
+fold_slots-requires c = record { room = (gathered (goal.at.fold_slots-requires c).In-Whole).room; count_bound = c.requires.as_stated.0 }
 
 pub returns-in-Unsound : goal.returns-in-Unsound
 returns-in-Unsound c =
@@ -30,7 +30,7 @@ pub returns-in-Whole : goal.returns-in-Whole
 returns-in-Whole c =
     let a = c.args in
     λ S. region_told a.state a.corners.now a.rings.now a.polygons.now a.boxes.now a.parts.now a.edges.now S.0 a.ray a.p c.in-Whole.whole _ _
-    (subst (λ (q : Query). ToldAll a.state.corners a.state.rings a.corners.now a.rings.now a.edges.now a.ray q a.p c.in-Whole.whole c.collect.new.listed c.collect.new.slots) c.requires.rings_bound.3 ((gathered (goal.at.returns-in-Whole c).In-Whole).told (walked_sound a.state a.corners.now a.rings.now a.polygons.now a.boxes.now a.parts.now a.edges.now S.0) S.1))
+    (subst (λ (q : Query). ToldAll a.state.corners a.state.rings a.corners.now a.rings.now a.edges.now a.ray q a.p c.in-Whole.whole c.collect.new.listed c.collect.new.slots) c.requires.as_stated.3 ((gathered (goal.at.returns-in-Whole c).In-Whole).told (walked_sound a.state a.corners.now a.rings.now a.polygons.now a.boxes.now a.parts.now a.edges.now S.0) S.1))
     c.fold_slots.result (fold_stated a.state.kind a.state.polygons a.polygons.now a.state.rings c.in-Whole.whole c.collect.new.listed c.collect.new.slots c.fold_slots.result
-    (subst (λ (k : Kind). FoldSays k a.polygons.now (polygons_in a.state.kind a.state.polygons) a.state.rings c.in-Whole.whole c.collect.new.listed c.collect.new.slots c.fold_slots.result) c.requires.rings_bound.1
-    (subst (λ (m : ℕ). FoldSays a.kind a.polygons.now m a.state.rings c.in-Whole.whole c.collect.new.listed c.collect.new.slots c.fold_slots.result) c.requires.rings_bound.2 c.fold_slots.ensures)))
+    (subst (λ (k : Kind). FoldSays k a.polygons.now (polygons_in a.state.kind a.state.polygons) a.state.rings c.in-Whole.whole c.collect.new.listed c.collect.new.slots c.fold_slots.result) c.requires.as_stated.1
+    (subst (λ (m : ℕ). FoldSays a.kind a.polygons.now m a.state.rings c.in-Whole.whole c.collect.new.listed c.collect.new.slots c.fold_slots.result) c.requires.as_stated.2 c.fold_slots.ensures)))

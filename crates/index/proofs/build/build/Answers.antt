@@ -73,7 +73,7 @@ cut_node-reads-requires c =
     let h = c.loop-top-test.true in
     let big : 8 < count_at l.parts (get_or l.waiting (l.top - 1) 0) = omega (arith, c.if-size-gt-LEAF.true) in
     let inside = turn_inside a.n a.corners.now a.rings.now _ _ _ l.boxes l.parts l.edges l.waiting l.top l.free l.invariant.0 h in
-    let room = turn_room a.n a.corners.now a.rings.now _ _ _ l.boxes l.parts l.edges l.waiting l.top l.free l.invariant.0 h big in record { corners_near = s.requires.corners_near; ring_ends = s.requires.ring_ends; p_lt_free = (inside.0, omega (arith, room.0, l.invariant.0.boxes_reach), omega (arith, room.0, l.invariant.0.parts_reach)); near_rect = turn_near a.n a.corners.now a.rings.now _ _ _ l.boxes l.parts l.edges l.waiting l.top l.free l.invariant.0 h big a.count s.requires.corners_near s.requires.ring_ends; names = turn_names a.n a.corners.now a.rings.now _ _ _ l.boxes l.parts l.edges l.waiting l.top l.free l.invariant.0 h big; p_nonzero = (omega arith, turn_part a.n a.corners.now a.rings.now _ _ _ l.boxes l.parts l.edges l.waiting l.top l.free l.invariant.0 h big) }
+    let room = turn_room a.n a.corners.now a.rings.now _ _ _ l.boxes l.parts l.edges l.waiting l.top l.free l.invariant.0 h big in record { corners_near = s.requires.corners_near; ring_ends = s.requires.ring_ends; p_lt_free = (inside.0, omega (arith, room.0, l.invariant.0.boxes_reach), omega (arith, room.0, l.invariant.0.parts_reach)); near_rect = turn_near a.n a.corners.now a.rings.now _ _ _ l.boxes l.parts l.edges l.waiting l.top l.free l.invariant.0 h big a.count s.requires.corners_near s.requires.ring_ends; names = turn_names a.n a.corners.now a.rings.now _ _ _ l.boxes l.parts l.edges l.waiting l.top l.free l.invariant.0 h big; part_inside = (omega arith, turn_part a.n a.corners.now a.rings.now _ _ _ l.boxes l.parts l.edges l.waiting l.top l.free l.invariant.0 h big) }
 
 pub overflow_add-reads : goal.overflow_add-reads
 overflow_add-reads c =

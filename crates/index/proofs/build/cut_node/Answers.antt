@@ -11,7 +11,7 @@ pub axis_of-axis-requires : goal.axis_of-axis-requires
 axis_of-axis-requires c = rw c.rect_at.ensures c.requires.near_rect
 
 pub cut_part-reads-requires : goal.cut_part-reads-requires
-cut_part-reads-requires c = let s = c in record { corners_near = s.requires.corners_near; ring_ends = s.requires.ring_ends; names = s.requires.names; size_nonzero = s.requires.p_nonzero }
+cut_part-reads-requires c = let s = c in record { corners_near = s.requires.corners_near; ring_ends = s.requires.ring_ends; names = s.requires.names; part_inside = s.requires.part_inside }
 
 pub part_box-left-requires : goal.part_box-left-requires
 part_box-left-requires c =
@@ -20,7 +20,7 @@ part_box-left-requires c =
     let m = count_at s.args.parts.now s.args.p in record { n_in_bounds = s.requires.corners_near.reach; ring_ends = s.requires.ring_ends; names = names_shuffled s.args.n s.args.edges.now _ f m f (m / 2) s.requires.names c.cut_part-reads.ensures.moved (omega arith) (omega arith) }
 
 pub overflow_add-first : goal.overflow_add-first
-overflow_add-first c = let s = c in omega (arith, s.requires.p_nonzero.1, s.ranges.n)
+overflow_add-first c = let s = c in omega (arith, s.requires.part_inside.1, s.ranges.n)
 
 pub part_box-right-requires : goal.part_box-right-requires
 part_box-right-requires c =
@@ -38,7 +38,7 @@ pub put_children-requires : goal.put_children-requires
 put_children-requires c =
     let s = c in
     let room = s.requires.p_lt_free in
-    let part = s.requires.p_nonzero in
+    let part = s.requires.part_inside in
     let few = s.requires.corners_near.few in record { p_in_bounds = (omega arith, omega arith, omega arith, omega arith, omega arith); rest_bound = omega arith }
 
 pub returns : goal.returns
