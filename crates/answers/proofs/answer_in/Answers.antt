@@ -56,13 +56,13 @@ pub slice_bounds-answer_lines-end-in-Read-5 : goal.slice_bounds-answer_lines-end
 slice_bounds-answer_lines-end-in-Read-5 c = let w = counts_fit _ _ _ _ _ (was_given (goal.at.slice_bounds-answer_lines-end-in-Read-5 c).In-Read) in let k = c.read_plan.auto in let p = c.requires in simp length-take (omega arith)
 
 pub answer_lines-requires : goal.answer_lines-requires
-answer_lines-requires c = let s = c in let f = c.first_query-place in let size = c.in-Read.size in let given = was_given (goal.at.answer_lines-requires c).In-Read in let is = held (goal.at.answer_lines-requires c).In-Read in (plan_admitted s.args.input.now s.requires.0 f.result f.ensures size given _ is, plan_due s.args.input.now s.requires.0 f.result f.ensures size given _ s.args.output.now is s.requires.1)
+answer_lines-requires c = let f = c.first_query-place in let size = c.in-Read.size in let given = was_given (goal.at.answer_lines-requires c).In-Read in let is = held (goal.at.answer_lines-requires c).In-Read in (plan_admitted c.args.input.now c.requires.0 f.result f.ensures size given _ is, plan_due c.args.input.now c.requires.0 f.result f.ensures size given _ c.args.output.now is c.requires.1)
 
 pub put_refusal-requires : goal.put_refusal-requires
-put_refusal-requires c = let s = c in let f = c.first_query-place in let refusal = c.in-Refused.refusal in let told = sym c.in-Refused.is ∙ read_as (goal.at.put_refusal-requires c).After-read_plan in subst (λ bytes. 0 + length bytes ≤ length s.args.output.now) (sym (ap₂ refusal_line c.refusal_number.ensures c.line_named.ensures)) (refused_room s.args.input.now s.requires.0 f.result f.ensures refusal (length s.args.output.now) s.requires.1 told)
+put_refusal-requires c = let f = c.first_query-place in let refusal = c.in-Refused.refusal in let told = sym c.in-Refused.is ∙ read_as (goal.at.put_refusal-requires c).After-read_plan in subst (λ bytes. 0 + length bytes ≤ length c.args.output.now) (sym (ap₂ refusal_line c.refusal_number.ensures c.line_named.ensures)) (refused_room c.args.input.now c.requires.0 f.result f.ensures refusal (length c.args.output.now) c.requires.1 told)
 
 pub returns-in-Read : goal.returns-in-Read
-returns-in-Read c = let s = c in let i = s.args.input.now in let f = c.first_query-place in let z = c.in-Read.size in let r = c.answer_lines in wrote_same _ _ s.args.output.now _ r.result (ap (λ plan. replies plan f.result.line (split 10 (drop f.result.from i))) (held (goal.at.returns-in-Read c).In-Read) ∙ sym (replies_due i s.requires.0 f.result f.ensures z (was_given (goal.at.returns-in-Read c).In-Read))) r.ensures
+returns-in-Read c = let i = c.args.input.now in let f = c.first_query-place in let z = c.in-Read.size in let r = c.answer_lines in wrote_same _ _ c.args.output.now _ r.result (ap (λ plan. replies plan f.result.line (split 10 (drop f.result.from i))) (held (goal.at.returns-in-Read c).In-Read) ∙ sym (replies_due i c.requires.0 f.result f.ensures z (was_given (goal.at.returns-in-Read c).In-Read))) r.ensures
 
 pub returns-in-Refused : goal.returns-in-Refused
-returns-in-Refused c = let s = c in let f = c.first_query-place in let refusal = c.in-Refused.refusal in let told = sym c.in-Refused.is ∙ read_as (goal.at.returns-in-Refused c).After-read_plan in let r = c.put_refusal in wrote_same _ _ s.args.output.now _ r.result (ap₂ refusal_line c.refusal_number.ensures c.line_named.ensures ∙ refused_line s.args.input.now s.requires.0 f.result f.ensures refusal told) r.ensures
+returns-in-Refused c = let f = c.first_query-place in let refusal = c.in-Refused.refusal in let told = sym c.in-Refused.is ∙ read_as (goal.at.returns-in-Refused c).After-read_plan in let r = c.put_refusal in wrote_same _ _ c.args.output.now _ r.result (ap₂ refusal_line c.refusal_number.ensures c.line_named.ensures ∙ refused_line c.args.input.now c.requires.0 f.result f.ensures refusal told) r.ensures

@@ -33,10 +33,10 @@ was_prepared : (c : In-Ready) → Prepared (given (goal.at.In-Ready c).Start) ze
 was_prepared c = subst (Prepared (given (goal.at.In-Ready c).Start) zeros (left (goal.at.In-Ready c).After-prepare)) c.in-Ready.is (said (goal.at.In-Ready c).After-prepare)
 
 pub put_replies-requires : goal.put_replies-requires
-put_replies-requires c = let s = c in let p = was_prepared (goal.at.put_replies-requires c).In-Ready in (tables_prepared (given (goal.at.put_replies-requires c).Start) zeros (left (goal.at.put_replies-requires c).After-prepare) c.in-Ready.state c.in-Ready.field-1 p, due_held (given (goal.at.put_replies-requires c).Start) zeros (left (goal.at.put_replies-requires c).After-prepare) c.in-Ready.state c.in-Ready.field-1 p s.args.input.now s.args.first s.args.number s.args.output.now s.requires.1)
+put_replies-requires c = let p = was_prepared (goal.at.put_replies-requires c).In-Ready in (tables_prepared (given (goal.at.put_replies-requires c).Start) zeros (left (goal.at.put_replies-requires c).After-prepare) c.in-Ready.state c.in-Ready.field-1 p, due_held (given (goal.at.put_replies-requires c).Start) zeros (left (goal.at.put_replies-requires c).After-prepare) c.in-Ready.state c.in-Ready.field-1 p c.args.input.now c.args.first c.args.number c.args.output.now c.requires.1)
 
 pub returns-in-Ready : goal.returns-in-Ready
-returns-in-Ready c = let s = c in let p = was_prepared (goal.at.returns-in-Ready c).In-Ready in wrote_same _ _ s.args.output.now _ c.put_replies.result (replies_held (given (goal.at.returns-in-Ready c).Start) zeros (left (goal.at.returns-in-Ready c).After-prepare) c.in-Ready.state c.in-Ready.field-1 p s.args.number (split 10 (drop s.args.first s.args.input.now))) c.put_replies.ensures
+returns-in-Ready c = let p = was_prepared (goal.at.returns-in-Ready c).In-Ready in wrote_same _ _ c.args.output.now _ c.put_replies.result (replies_held (given (goal.at.returns-in-Ready c).Start) zeros (left (goal.at.returns-in-Ready c).After-prepare) c.in-Ready.state c.in-Ready.field-1 p c.args.number (split 10 (drop c.args.first c.args.input.now))) c.put_replies.ensures
 
 pub returns-in-Refused : goal.returns-in-Refused
-returns-in-Refused c = let s = c in let r = c in never_unprepared (given (goal.at.returns-in-Refused c).Start) s.requires.0 zeros (left (goal.at.returns-in-Refused c).After-prepare) c.in-Refused.field-0 refl (subst (Prepared (given (goal.at.returns-in-Refused c).Start) zeros (left (goal.at.returns-in-Refused c).After-prepare)) c.in-Refused.is (said (goal.at.returns-in-Refused c).After-prepare))
+returns-in-Refused c = never_unprepared (given (goal.at.returns-in-Refused c).Start) c.requires.0 zeros (left (goal.at.returns-in-Refused c).After-prepare) c.in-Refused.field-0 refl (subst (Prepared (given (goal.at.returns-in-Refused c).Start) zeros (left (goal.at.returns-in-Refused c).After-prepare)) c.in-Refused.is (said (goal.at.returns-in-Refused c).After-prepare))

@@ -10,27 +10,23 @@ use Rattle.boxes.proofs.edge_box.Goals as goal
 
 pub corner_at-a-requires : goal.corner_at-a-requires
 corner_at-a-requires c =
-    let s = c in
-    omega (arith, ring_inside s.args.n s.args.count s.args.rings.now s.requires.ring_ends s.args.e s.args.r s.requires.ring_at)
+    omega (arith, ring_inside c.args.n c.args.count c.args.rings.now c.requires.ring_ends c.args.e c.args.r c.requires.ring_at)
 
 pub next_corner-requires : goal.next_corner-requires
 next_corner-requires c =
-    let s = c in
-    let here = s.requires.ring_at in
-    (omega (arith, here.ring, s.requires.ring_ends.reach), here.to)
+    let here = c.requires.ring_at in
+    (omega (arith, here.ring, c.requires.ring_ends.reach), here.to)
 
 pub corner_at-b-requires : goal.corner_at-b-requires
 corner_at-b-requires c =
-    let s = c in
-    let at = next_of_ring s.args.n s.args.count s.args.rings.now s.requires.ring_ends s.args.e s.args.r s.requires.ring_at in
-    let inside = next_inside s.args.n s.args.count s.args.rings.now s.requires.ring_ends s.args.e (ring_inside s.args.n s.args.count s.args.rings.now s.requires.ring_ends s.args.e s.args.r s.requires.ring_at) in
+    let at = next_of_ring c.args.n c.args.count c.args.rings.now c.requires.ring_ends c.args.e c.args.r c.requires.ring_at in
+    let inside = next_inside c.args.n c.args.count c.args.rings.now c.requires.ring_ends c.args.e (ring_inside c.args.n c.args.count c.args.rings.now c.requires.ring_ends c.args.e c.args.r c.requires.ring_at) in
     let same = c.next_corner.ensures in
     omega arith
 
 pub returns : goal.returns
 unfolding edge_box edge_of
 returns c =
-    let s = c in
-    let at = next_of_ring s.args.n s.args.count s.args.rings.now s.requires.ring_ends s.args.e s.args.r s.requires.ring_at in
+    let at = next_of_ring c.args.n c.args.count c.args.rings.now c.requires.ring_ends c.args.e c.args.r c.requires.ring_at in
     c.new.ensures
-    ∙ (λ i. rect_of (c.corner_at-a.ensures i) ((c.corner_at-b.ensures ∙ ap (corner_at s.args.corners.now) (c.next_corner.ensures ∙ sym at)) i))
+    ∙ (λ i. rect_of (c.corner_at-a.ensures i) ((c.corner_at-b.ensures ∙ ap (corner_at c.args.corners.now) (c.next_corner.ensures ∙ sym at)) i))

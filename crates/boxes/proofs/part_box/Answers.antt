@@ -16,14 +16,13 @@ returns-then-size-eq0 c =
 
 pub ring_near-ring-requires : goal.ring_near-ring-requires
 ring_near-ring-requires c =
-    let s = c in
-    let a = s.args in
-    let asks = searchable a.n a.count a.rings.now s.requires.ring_ends (get_or a.edges.now a.first 0) (s.requires.names.each a.first (omega arith) (omega arith)) in
+    let a = c.args in
+    let asks = searchable a.n a.count a.rings.now c.requires.ring_ends (get_or a.edges.now a.first 0) (c.requires.names.each a.first (omega arith) (omega arith)) in
     (asks.0, asks.1, asks.2)
 
 pub edge_box-b-requires : goal.edge_box-b-requires
 edge_box-b-requires c =
-    let s = c in record { n_in_bounds = s.requires.n_in_bounds; ring_ends = s.requires.ring_ends; ring_at = c.ring_near-ring.ensures }
+    record { n_in_bounds = c.requires.n_in_bounds; ring_ends = c.requires.ring_ends; ring_at = c.ring_near-ring.ensures }
 
 pub loop-k-init : goal.loop-k-init
 loop-k-init c =
@@ -32,20 +31,18 @@ loop-k-init c =
 
 pub ring_near-ring-requires-in-loop-k : goal.ring_near-ring-requires-in-loop-k
 ring_near-ring-requires-in-loop-k c =
-    let s = c in
-    let a = s.args in
+    let a = c.args in
     let l = c.loop-k in
-    let asks = searchable a.n a.count a.rings.now s.requires.ring_ends (get_or a.edges.now (a.first + l.k) 0) (s.requires.names.each (a.first + l.k) (omega arith) (omega arith)) in
+    let asks = searchable a.n a.count a.rings.now c.requires.ring_ends (get_or a.edges.now (a.first + l.k) 0) (c.requires.names.each (a.first + l.k) (omega arith) (omega arith)) in
     (l.invariant.2, asks.1, asks.2)
 
 pub edge_box-requires : goal.edge_box-requires
 edge_box-requires c =
-    let s = c in record { n_in_bounds = s.requires.n_in_bounds; ring_ends = s.requires.ring_ends; ring_at = c.ring_near-ring-in-loop-k.ensures }
+    record { n_in_bounds = c.requires.n_in_bounds; ring_ends = c.requires.ring_ends; ring_at = c.ring_near-ring-in-loop-k.ensures }
 
 pub overflow_add-k : goal.overflow_add-k
 overflow_add-k c =
-    let s = c in
-    omega (arith, c.loop-k-test.true, s.ranges.size)
+    omega (arith, c.loop-k-test.true, c.ranges.size)
 
 pub loop-k-preserved : goal.loop-k-preserved
 loop-k-preserved c =

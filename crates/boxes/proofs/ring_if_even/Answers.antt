@@ -7,7 +7,7 @@ use Rattle.boxes.proofs.Rings.{share_below}
 use Rattle.boxes.proofs.ring_if_even.Goals as goal
 
 pub overflow_mul-result : goal.overflow_mul-result
-overflow_mul-result c = let s = c in omega (arith, column_fits s.args.e s.args.count (omega arith) (omega arith))
+overflow_mul-result c = omega (arith, column_fits c.args.e c.args.count (omega arith) (omega arith))
 
 pub returns : goal.returns
-returns c = let s = c in share_below s.args.e s.args.count (get_or s.args.rings.now (s.args.count - 1) 0) s.requires.2 s.requires.0
+returns c = share_below c.args.e c.args.count (get_or c.args.rings.now (c.args.count - 1) 0) c.requires.2 c.requires.0

@@ -9,7 +9,6 @@ use Rattle.capi.proofs.findspot_locate_text.Goals as goal
 
 pub returns : goal.returns
 returns c =
-    let s = c in
     to_z-of_z {w = w64} (record { sfits = c.reply_number.type_inv })
     ∙ c.reply_number.ensures
-    ∙ ap reply_number (c.locate_in-reply.ensures ∙ ap₂ (λ x y. text_reply s.args.text.now (record { x = x; y = y })) (rd_is s.args.x s.ranges.x) (rd_is s.args.y s.ranges.y))
+    ∙ ap reply_number (c.locate_in-reply.ensures ∙ ap₂ (λ x y. text_reply c.args.text.now (record { x = x; y = y })) (rd_is c.args.x c.ranges.x) (rd_is c.args.y c.ranges.y))

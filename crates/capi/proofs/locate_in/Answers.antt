@@ -46,7 +46,6 @@ returns-in-Read c =
 
 pub returns-in-Refused : goal.returns-in-Refused
 returns-in-Refused c =
-    let s = c in
-    let a = s.args in
-    let p = s.requires in
+    let a = c.args in
+    let p = c.requires in
     refused_reply a.text.now (length a.corners.now) (length a.lengths.now) (length a.counts.now) a.p c.in-Refused.refusal p.0 p.1 p.2 (sym c.in-Refused.is ∙ c.read_plan.ensures.answer)

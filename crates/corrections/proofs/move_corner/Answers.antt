@@ -39,8 +39,7 @@ overflow_add-state c = omega (arith, (known (goal.at.overflow_add-state c).In-Op
 
 pub returns-in-Settled : goal.returns-in-Settled
 returns-in-Settled c =
-    let s = c in
-    let a = s.args in
+    let a = c.args in
     λ polygons. move_settled (given (goal.at.returns-in-Settled c).Start polygons) a.corner a.place c.in-Settled.answer (sym c.move_early.ensures ∙ c.in-Settled.is)
 
 pub returns-in-Unsound : goal.returns-in-Unsound

@@ -6,11 +6,10 @@ use Rattle.integers.proofs.difference.Goals as goal
 
 pub returns : goal.returns
 returns c =
-    let s = c in
     let p = c.above_least in
     let q = c.above_least-2 in
     let d = c.subtract_word in
-    word_exact s.args.a s.args.b p.result q.result (2 ^ 63) d.result.word d.result.borrow
-    (p.ensures ∙ ap (λ z. z +ℤ pos (2 ^ 63)) (rd_is s.args.a s.ranges.a))
-    (q.ensures ∙ ap (λ z. z +ℤ pos (2 ^ 63)) (rd_is s.args.b s.ranges.b))
+    word_exact c.args.a c.args.b p.result q.result (2 ^ 63) d.result.word d.result.borrow
+    (p.ensures ∙ ap (λ z. z +ℤ pos (2 ^ 63)) (rd_is c.args.a c.ranges.a))
+    (q.ensures ∙ ap (λ z. z +ℤ pos (2 ^ 63)) (rd_is c.args.b c.ranges.b))
     d.ensures

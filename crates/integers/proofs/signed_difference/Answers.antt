@@ -5,6 +5,5 @@ use Rattle.integers.proofs.signed_difference.Goals as goal
 
 pub returns : goal.returns
 returns c =
-    let s = c in
     let d = c.subtract-d in
-    difference_exact s.args.p s.args.q d.result (size_small d.result.words (omega arith) (omega arith)) s.requires d.ensures
+    difference_exact c.args.p c.args.q d.result (size_small d.result.words (omega arith) (omega arith)) c.requires d.ensures

@@ -5,11 +5,10 @@ use Rattle.integers.proofs.signed_product.Goals as goal
 
 pub returns : goal.returns
 returns c =
-    let s = c in
     let words = c.product-words in
     let once = c.subtract_word-once in
     let twice = c.subtract_word-twice in
-    product_exact s.args.a s.args.b words.result once.result twice.result (omega arith) (omega arith) words.ensures
+    product_exact c.args.a c.args.b words.result once.result twice.result (omega arith) (omega arith) words.ensures
     (ap (λ (n : ℕ). once.result.word + (n + 0)) (sym c.word_if.ensures) ∙ once.ensures)
     (ap (λ (n : ℕ). twice.result.word + (n + 0)) (sym c.word_if-2.ensures) ∙ twice.ensures)
-    s.requires
+    c.requires

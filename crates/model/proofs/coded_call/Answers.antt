@@ -9,32 +9,28 @@ use Rattle.model.proofs.coded_call.Goals as goal
 
 pub returns-then-is_number : goal.returns-then-is_number
 returns-then-is_number c =
-    let s = c in
-    rw (kind_is s.args.kind (pos 0) _ _ s.ranges.kind c.is_number.ensures c.if-is_number.true)
-    (ap (λ i. Move i s.args.point) (c.corner_named.ensures ∙ ap corner_named (rd_is s.args.corner s.ranges.corner)))
+    rw (kind_is c.args.kind (pos 0) _ _ c.ranges.kind c.is_number.ensures c.if-is_number.true)
+    (ap (λ i. Move i c.args.point) (c.corner_named.ensures ∙ ap corner_named (rd_is c.args.corner c.ranges.corner)))
 
 pub returns-then-is_number-2 : goal.returns-then-is_number-2
 returns-then-is_number-2 c =
-    let s = c in
     rw (
-      kind_is s.args.kind (pos 0) _ _ s.ranges.kind c.is_number.ensures c.if-is_number.false,
-      kind_is s.args.kind (pos 1) _ _ s.ranges.kind c.is_number-2.ensures c.if-is_number-2.true,
+      kind_is c.args.kind (pos 0) _ _ c.ranges.kind c.is_number.ensures c.if-is_number.false,
+      kind_is c.args.kind (pos 1) _ _ c.ranges.kind c.is_number-2.ensures c.if-is_number-2.true,
     )
 
 pub returns-then-is_number-3 : goal.returns-then-is_number-3
 returns-then-is_number-3 c =
-    let s = c in
     rw (
-      kind_is s.args.kind (pos 0) _ _ s.ranges.kind c.is_number.ensures c.if-is_number.false,
-      kind_is s.args.kind (pos 1) _ _ s.ranges.kind c.is_number-2.ensures c.if-is_number-2.false,
-      kind_is s.args.kind (pos 2) _ _ s.ranges.kind c.is_number-3.ensures c.if-is_number-3.true,
+      kind_is c.args.kind (pos 0) _ _ c.ranges.kind c.is_number.ensures c.if-is_number.false,
+      kind_is c.args.kind (pos 1) _ _ c.ranges.kind c.is_number-2.ensures c.if-is_number-2.false,
+      kind_is c.args.kind (pos 2) _ _ c.ranges.kind c.is_number-3.ensures c.if-is_number-3.true,
     )
 
 pub returns : goal.returns
 returns c =
-    let s = c in
     rw (
-      kind_is s.args.kind (pos 0) _ _ s.ranges.kind c.is_number.ensures c.if-is_number.false,
-      kind_is s.args.kind (pos 1) _ _ s.ranges.kind c.is_number-2.ensures c.if-is_number-2.false,
-      kind_is s.args.kind (pos 2) _ _ s.ranges.kind c.is_number-3.ensures c.if-is_number-3.false,
+      kind_is c.args.kind (pos 0) _ _ c.ranges.kind c.is_number.ensures c.if-is_number.false,
+      kind_is c.args.kind (pos 1) _ _ c.ranges.kind c.is_number-2.ensures c.if-is_number-2.false,
+      kind_is c.args.kind (pos 2) _ _ c.ranges.kind c.is_number-3.ensures c.if-is_number-3.false,
     )

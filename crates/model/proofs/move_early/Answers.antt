@@ -13,18 +13,15 @@ returns-then-state-i c =
 
 pub returns-then-is_full : goal.returns-then-is_full
 returns-then-is_full c =
-    let s = c in
-    let a = s.args in
-    rw (s.if-state.false, lt-leb a.state.corners a.i s.if-state-i.false, sym s.in_range.ensures ∙ c.if-in_range.true, sym c.is_full.ensures ∙ c.if-is_full.true)
+    let a = c.args in
+    rw (c.if-state.false, lt-leb a.state.corners a.i c.if-state-i.false, sym c.in_range.ensures ∙ c.if-in_range.true, sym c.is_full.ensures ∙ c.if-is_full.true)
 
 pub returns-then-in_range : goal.returns-then-in_range
 returns-then-in_range c =
-    let s = c in
-    let a = s.args in
-    rw (s.if-state.false, lt-leb a.state.corners a.i s.if-state-i.false, sym s.in_range.ensures ∙ c.if-in_range.true, sym c.is_full.ensures ∙ c.if-is_full.false)
+    let a = c.args in
+    rw (c.if-state.false, lt-leb a.state.corners a.i c.if-state-i.false, sym c.in_range.ensures ∙ c.if-in_range.true, sym c.is_full.ensures ∙ c.if-is_full.false)
 
 pub returns : goal.returns
 returns c =
-    let s = c in
-    let a = s.args in
-    rw (s.if-state.false, lt-leb a.state.corners a.i s.if-state-i.false, sym s.in_range.ensures ∙ c.if-in_range.false)
+    let a = c.args in
+    rw (c.if-state.false, lt-leb a.state.corners a.i c.if-state-i.false, sym c.in_range.ensures ∙ c.if-in_range.false)

@@ -18,8 +18,7 @@ module _ (c : After-product_of_differences-q) where
 
 pub signed_difference-requires : goal.signed_difference-requires
 signed_difference-requires c =
-    let s = c in
-    products_fit (record { x = s.args.ax; y = s.args.ay }) (record { x = s.args.bx; y = s.args.by }) (record { x = s.args.cx; y = s.args.cy }) c.product_of_differences-p.result c.product_of_differences-q.result (s.ranges.ax, s.ranges.ay) (s.ranges.bx, s.ranges.by) (s.ranges.cx, s.ranges.cy) (exact c)
+    products_fit (record { x = c.args.ax; y = c.args.ay }) (record { x = c.args.bx; y = c.args.by }) (record { x = c.args.cx; y = c.args.cy }) c.product_of_differences-p.result c.product_of_differences-q.result (c.ranges.ax, c.ranges.ay) (c.ranges.bx, c.ranges.by) (c.ranges.cx, c.ranges.cy) (exact c)
 
 pub returns : goal.returns
 returns c = c.signed_difference.ensures ∙ exact (goal.at.returns c).After-product_of_differences-q

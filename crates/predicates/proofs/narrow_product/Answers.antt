@@ -12,7 +12,7 @@ pub overflow_sub-a : goal.overflow_sub-a
 overflow_sub-a c = let a = c.args in fit₂ ◌-ℤ◌ a.a a.b c.ranges.a c.ranges.b (narrow_apart a.a a.b c.requires.0 c.requires.1)
 
 pub overflow_sub-c : goal.overflow_sub-c
-overflow_sub-c c = let s = c in fit₂ ◌-ℤ◌ s.args.c s.args.d s.ranges.c s.ranges.d (narrow_apart s.args.c s.args.d s.requires.2 s.requires.3)
+overflow_sub-c c = fit₂ ◌-ℤ◌ c.args.c c.args.d c.ranges.c c.ranges.d (narrow_apart c.args.c c.args.d c.requires.2 c.requires.3)
 
 module _ (c : After-difference-2) where
   abbrev s : Start
@@ -32,8 +32,7 @@ module _ (c : After-difference-2) where
 
 pub signed_product-requires : goal.signed_product-requires
 signed_product-requires c =
-    let s = c in
-    subst (λ z. nat_abs z < word_pair) (sym (λ i. first c i *ℤ second c i)) (product_fits s.args.a s.args.b s.args.c s.args.d s.ranges.a s.ranges.b s.ranges.c s.ranges.d)
+    subst (λ z. nat_abs z < word_pair) (sym (λ i. first c i *ℤ second c i)) (product_fits c.args.a c.args.b c.args.c c.args.d c.ranges.a c.ranges.b c.ranges.c c.ranges.d)
 
 pub returns : goal.returns
 returns c = c.signed_product.ensures ∙ (λ i. first (goal.at.returns c).After-difference-2 i *ℤ second (goal.at.returns c).After-difference-2 i)

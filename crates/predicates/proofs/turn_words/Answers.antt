@@ -21,7 +21,7 @@ narrow_turn-requires c =
     (sym ax.ensures ∙ one.0, sym ay.ensures ∙ one.1, sym bx.ensures ∙ two.1, sym by.ensures ∙ three.1, sym cx.ensures ∙ four.1, sym cy.ensures ∙ five.1)
 
 pub returns-then-is_narrow : goal.returns-then-is_narrow
-returns-then-is_narrow c = let s = c in c.narrow_turn.ensures ∙ (λ i. orientation (record { x = rd_is s.args.ax s.ranges.ax i; y = rd_is s.args.ay s.ranges.ay i }) (record { x = rd_is s.args.bx s.ranges.bx i; y = rd_is s.args.by s.ranges.by i }) (record { x = rd_is s.args.cx s.ranges.cx i; y = rd_is s.args.cy s.ranges.cy i }))
+returns-then-is_narrow c = c.narrow_turn.ensures ∙ (λ i. orientation (record { x = rd_is c.args.ax c.ranges.ax i; y = rd_is c.args.ay c.ranges.ay i }) (record { x = rd_is c.args.bx c.ranges.bx i; y = rd_is c.args.by c.ranges.by i }) (record { x = rd_is c.args.cx c.ranges.cx i; y = rd_is c.args.cy c.ranges.cy i }))
 
 pub returns : goal.returns
-returns c = let s = c in c.any_turn.ensures ∙ (λ i. orientation (record { x = rd_is s.args.ax s.ranges.ax i; y = rd_is s.args.ay s.ranges.ay i }) (record { x = rd_is s.args.bx s.ranges.bx i; y = rd_is s.args.by s.ranges.by i }) (record { x = rd_is s.args.cx s.ranges.cx i; y = rd_is s.args.cy s.ranges.cy i }))
+returns c = c.any_turn.ensures ∙ (λ i. orientation (record { x = rd_is c.args.ax c.ranges.ax i; y = rd_is c.args.ay c.ranges.ay i }) (record { x = rd_is c.args.bx c.ranges.bx i; y = rd_is c.args.by c.ranges.by i }) (record { x = rd_is c.args.cx c.ranges.cx i; y = rd_is c.args.cy c.ranges.cy i }))

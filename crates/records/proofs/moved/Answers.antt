@@ -5,14 +5,12 @@ use Rattle.records.proofs.moved.Goals as goal
 
 pub overflow_add-i : goal.overflow_add-i
 overflow_add-i c =
-    let turn = c in
-    omega (arith, turn.loop-i-test.true, turn.ranges.moves)
+    omega (arith, c.loop-i-test.true, c.ranges.moves)
 
 pub loop-i-preserved : goal.loop-i-preserved
 loop-i-preserved c =
-    let moved = c in
-    let k = moved.move_corner-corrected.auto in
-    let i = moved.loop-i.invariant in
+    let k = c.move_corner-corrected.auto in
+    let i = c.loop-i.invariant in
     (k.corners ∙ i.0, k.boxes ∙ i.1, k.undo ∙ i.2)
 
 pub returns : goal.returns

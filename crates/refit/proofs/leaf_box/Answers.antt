@@ -15,9 +15,8 @@ returns-then-size-eq0 c =
 
 pub span-b-requires : goal.span-b-requires
 span-b-requires c =
-    let s = c in
-    let z : s.args.first + 0 ≡ s.args.first = omega arith in
-    (omega (arith, ap (λ x. get_or s.args.edges.now x 0) z, s.requires.spans.start 0 (omega arith)), omega (arith, s.requires.spans.stop 0 (omega arith)))
+    let z : c.args.first + 0 ≡ c.args.first = omega arith in
+    (omega (arith, ap (λ x. get_or c.args.edges.now x 0) z, c.requires.spans.start 0 (omega arith)), omega (arith, c.requires.spans.stop 0 (omega arith)))
 
 pub loop-j-init : goal.loop-j-init
 loop-j-init c =
@@ -26,9 +25,8 @@ loop-j-init c =
 
 pub span-requires : goal.span-requires
 span-requires c =
-    let s = c in
     let l = c.loop-j in
-    (omega (arith, s.requires.spans.start l.j (omega arith)), omega (arith, s.requires.spans.stop l.j (omega arith)))
+    (omega (arith, c.requires.spans.start l.j (omega arith)), omega (arith, c.requires.spans.stop l.j (omega arith)))
 
 pub loop-j-preserved : goal.loop-j-preserved
 loop-j-preserved c =

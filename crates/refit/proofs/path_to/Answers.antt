@@ -17,9 +17,8 @@ kept path path' K = kept_both 18 path (set path 0 0) path' (kept_set 18 path pat
 
 pub loop-child-init : goal.loop-child-init
 loop-child-init c =
-    let s = c in
-    let a = s.args in
-    let root = get_or-set_same a.path.now 0 0 0 (omega (arith, s.requires.in_bounds.0)) in
+    let a = c.args in
+    let root = get_or-set_same a.path.now 0 0 0 (omega (arith, c.requires.in_bounds.0)) in
     (kept_all 18 (set a.path.now 0 0), leads_start a.parts.now a.nodes a.k (set a.path.now 0 0) root, sym root)
 
 pub shape_of-path-in-Unsound : goal.shape_of-path-in-Unsound
@@ -27,9 +26,8 @@ shape_of-path-in-Unsound c = c.loop-child.invariant.0.long ∙ length-set c.args
 
 pub returns-in-Unsound : goal.returns-in-Unsound
 returns-in-Unsound c =
-    let s = c in
-    let a = s.args in
-    let l = c.loop-child in record { path_says = never_astray a.n a.parts.now a.nodes a.k s.requires.index_place.0 s.requires.index_place.1 l.path l.depth l.p l.invariant.1 l.invariant.2 (rw c.in-Unsound.is at c.step_to.ensures); kept_from = kept a.path.now l.path l.invariant.0 }
+    let a = c.args in
+    let l = c.loop-child in record { path_says = never_astray a.n a.parts.now a.nodes a.k c.requires.index_place.0 c.requires.index_place.1 l.path l.depth l.p l.invariant.1 l.invariant.2 (rw c.in-Unsound.is at c.step_to.ensures); kept_from = kept a.path.now l.path l.invariant.0 }
 
 pub shape_of-path-in-Leaf : goal.shape_of-path-in-Leaf
 shape_of-path-in-Leaf c = c.loop-child.invariant.0.long ∙ length-set c.args.path.now 0 0
@@ -45,25 +43,22 @@ shape_of-path-then-depth-ge-DEPTH c = c.loop-child.invariant.0.long ∙ length-s
 
 pub returns-then-depth-ge-DEPTH : goal.returns-then-depth-ge-DEPTH
 returns-then-depth-ge-DEPTH c =
-    let s = c in
-    let a = s.args in
+    let a = c.args in
     let l = c.loop-child in
     let child = c.in-Down.child in
-    let below = subst (StepSays a.parts.now a.n a.nodes a.k l.p) c.in-Down.is c.step_to.ensures in record { path_says = never_deeper a.n a.parts.now a.nodes a.k s.requires.index_place.0 s.requires.index_place.1 l.path l.depth l.p l.invariant.1 l.invariant.2 child c.if-depth-ge-DEPTH.true below; kept_from = kept a.path.now l.path l.invariant.0 }
+    let below = subst (StepSays a.parts.now a.n a.nodes a.k l.p) c.in-Down.is c.step_to.ensures in record { path_says = never_deeper a.n a.parts.now a.nodes a.k c.requires.index_place.0 c.requires.index_place.1 l.path l.depth l.p l.invariant.1 l.invariant.2 child c.if-depth-ge-DEPTH.true below; kept_from = kept a.path.now l.path l.invariant.0 }
 
 pub bounds-path-depth : goal.bounds-path-depth
 bounds-path-depth c =
-    let s = c in
-    omega (arith, c.if-depth-ge-DEPTH.false, s.requires.in_bounds.0, c.loop-child.invariant.0.long, length-set s.args.path.now 0 0)
+    omega (arith, c.if-depth-ge-DEPTH.false, c.requires.in_bounds.0, c.loop-child.invariant.0.long, length-set c.args.path.now 0 0)
 
 pub loop-child-preserved : goal.loop-child-preserved
 loop-child-preserved c =
-    let s = c in
-    let a = s.args in
+    let a = c.args in
     let l = c.loop-child in
     let child = c.in-Down.child in
     let below = subst (StepSays a.parts.now a.n a.nodes a.k l.p) c.in-Down.is c.step_to.ensures in
-    let room : 18 ≤ length l.path = omega (arith, s.requires.in_bounds.0, l.invariant.0.long, length-set a.path.now 0 0) in
+    let room : 18 ≤ length l.path = omega (arith, c.requires.in_bounds.0, l.invariant.0.long, length-set a.path.now 0 0) in
     let e : l.depth + 1 - 1 ≡ l.depth = omega arith in (
       kept_set 18 (set a.path.now 0 0) l.path l.depth child c.if-depth-ge-DEPTH.false l.invariant.0,
       leads_more a.parts.now a.nodes a.k l.path l.depth child room c.if-depth-ge-DEPTH.false l.invariant.1 (subst (λ q. Below a.parts.now a.nodes a.k q child) l.invariant.2 below),

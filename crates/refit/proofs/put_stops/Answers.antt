@@ -7,9 +7,8 @@ use Rattle.refit.proofs.put_stops.Goals as goal
 
 pub loop-j-init : goal.loop-j-init
 loop-j-init c =
-    let s = c in
-    let a = s.args in
-    (omega arith, s.requires.last_ring_ends.0, kept_all a.size a.stops.now, stops_none a.n a.count a.rings.now a.edges.now a.first a.stops.now)
+    let a = c.args in
+    (omega arith, c.requires.last_ring_ends.0, kept_all a.size a.stops.now, stops_none a.n a.count a.rings.now a.edges.now a.first a.stops.now)
 
 pub returns-then-n-e : goal.returns-then-n-e
 returns-then-n-e c =
@@ -17,14 +16,12 @@ returns-then-n-e c =
 
 pub ring_near-ring-requires : goal.ring_near-ring-requires
 ring_near-ring-requires c =
-    let s = c in
     let l = c.loop-j in
-    (l.invariant.1, s.requires.last_ring_ends.1, omega (arith, s.requires.last_ring_ends.2))
+    (l.invariant.1, c.requires.last_ring_ends.1, omega (arith, c.requires.last_ring_ends.2))
 
 pub next_corner-stop-requires : goal.next_corner-stop-requires
 next_corner-stop-requires c =
-    let s = c in
-    (omega (arith, c.ring_near-ring.ensures.ring, s.requires.last_ring_ends.1), c.ring_near-ring.ensures.to)
+    (omega (arith, c.ring_near-ring.ensures.ring, c.requires.last_ring_ends.1), c.ring_near-ring.ensures.to)
 
 pub returns-then-n-stop : goal.returns-then-n-stop
 returns-then-n-stop c =

@@ -7,16 +7,15 @@ use Rattle.walk.proofs.lent_enough.Goals as goal
 
 pub returns : goal.returns
 returns c =
-    let start = c in
-    whether_both _ (leb start.args.cursor.waiting 18) (leb start.args.cursor.to start.args.n)
+    whether_both _ (leb c.args.cursor.waiting 18) (leb c.args.cursor.to c.args.n)
     (λ a b.
     record {
       stack_reach = omega arith;
       boxes_reach = omega arith;
       parts_reach = omega arith;
       edges_reach = omega arith;
-      few_waiting = leb-true start.args.cursor.waiting 18 a;
-      inside = leb-true start.args.cursor.to start.args.n b;
+      few_waiting = leb-true c.args.cursor.waiting 18 a;
+      inside = leb-true c.args.cursor.to c.args.n b;
     })
-    (λ L. le-leb start.args.cursor.waiting 18 L.few_waiting)
-    (λ L. le-leb start.args.cursor.to start.args.n L.inside)
+    (λ L. le-leb c.args.cursor.waiting 18 L.few_waiting)
+    (λ L. le-leb c.args.cursor.to c.args.n L.inside)

@@ -20,9 +20,8 @@ bounds-edges-at c = omega (arith, (in_hand (goal.at.bounds-edges-at c).In-Leaf).
 
 pub returns-then-n-e : goal.returns-then-n-e
 returns-then-n-e c =
-    let k = c in
-    let a = k.args in
-    going_astray a.n a.boxes.now a.parts.now a.edges.now a.query a.stack.now a.cursor k.next_leaf.new.stack k.in-Leaf.here (in_hand (goal.at.returns-then-n-e c).In-Leaf).going (in_hand (goal.at.returns-then-n-e c).In-Leaf).some c.if-n-e.true
+    let a = c.args in
+    going_astray a.n a.boxes.now a.parts.now a.edges.now a.query a.stack.now a.cursor c.next_leaf.new.stack c.in-Leaf.here (in_hand (goal.at.returns-then-n-e c).In-Leaf).going (in_hand (goal.at.returns-then-n-e c).In-Leaf).some c.if-n-e.true
 
 pub overflow_add-at : goal.overflow_add-at
 overflow_add-at c = omega (arith, (in_hand (goal.at.overflow_add-at c).In-Leaf).some, (in_hand (goal.at.overflow_add-at c).In-Leaf).going.inside, c.ranges.n)
@@ -35,7 +34,6 @@ returns-in-End c = rw c.in-End.is at c.next_leaf.ensures
 
 pub returns-else-n-e : goal.returns-else-n-e
 returns-else-n-e c =
-    let k = c in
-    let a = k.args in
-    subst (λ (c' : Cursor). Yields a.n a.boxes.now a.parts.now a.edges.now a.query a.stack.now a.cursor k.next_leaf.new.stack (get_or a.edges.now k.in-Leaf.here.at 0) c') (sym c.at_place.ensures)
-    (going_yields a.n a.boxes.now a.parts.now a.edges.now a.query a.stack.now a.cursor k.next_leaf.new.stack k.in-Leaf.here (in_hand (goal.at.returns-else-n-e c).In-Leaf).going (in_hand (goal.at.returns-else-n-e c).In-Leaf).some c.if-n-e.false)
+    let a = c.args in
+    subst (λ (c' : Cursor). Yields a.n a.boxes.now a.parts.now a.edges.now a.query a.stack.now a.cursor c.next_leaf.new.stack (get_or a.edges.now c.in-Leaf.here.at 0) c') (sym c.at_place.ensures)
+    (going_yields a.n a.boxes.now a.parts.now a.edges.now a.query a.stack.now a.cursor c.next_leaf.new.stack c.in-Leaf.here (in_hand (goal.at.returns-else-n-e c).In-Leaf).going (in_hand (goal.at.returns-else-n-e c).In-Leaf).some c.if-n-e.false)

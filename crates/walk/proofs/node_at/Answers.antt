@@ -15,12 +15,11 @@ entered c =
 
 pub returns-then-not-is_entered : goal.returns-then-not-is_entered
 returns-then-not-is_entered c =
-    let start = c in
     record {
       node = omega arith;
       to = refl;
       fits = omega arith;
-      misses = ap (λ r. enters start.args.query r) (sym c.rect_at.ensures) ∙ sym c.is_entered.ensures ∙ c.if-not-is_entered.true;
+      misses = ap (λ r. enters c.args.query r) (sym c.rect_at.ensures) ∙ sym c.is_entered.ensures ∙ c.if-not-is_entered.true;
     }
 
 pub returns-then-count-le-LEAF : goal.returns-then-count-le-LEAF

@@ -15,6 +15,5 @@ returns-in-Unknown c = replied_unknown (state_named c.args.state) _ _ (sym c.sta
 
 pub returns-in-Known : goal.returns-in-Known
 returns-in-Known c =
-    let s = c in
-    let a = s.args in
-    replied_known (state_named a.state) c.in-Known.known a.x a.y (λ p state reply. Looked state a.corners.now a.rings.now a.polygons.now a.boxes.now a.parts.now a.edges.now (in_range p) (plan_reply (plan_of state a.corners.now a.rings.now a.polygons.now) p) reply) c.locate.result _ (sym c.state_of.ensures ∙ c.in-Known.is) s.ranges.x s.ranges.y c.locate.ensures (to_z-of_z {w = w64} (record { sfits = c.reply_number.type_inv }) ∙ c.reply_number.ensures)
+    let a = c.args in
+    replied_known (state_named a.state) c.in-Known.known a.x a.y (λ p state reply. Looked state a.corners.now a.rings.now a.polygons.now a.boxes.now a.parts.now a.edges.now (in_range p) (plan_reply (plan_of state a.corners.now a.rings.now a.polygons.now) p) reply) c.locate.result _ (sym c.state_of.ensures ∙ c.in-Known.is) c.ranges.x c.ranges.y c.locate.ensures (to_z-of_z {w = w64} (record { sfits = c.reply_number.type_inv }) ∙ c.reply_number.ensures)

@@ -18,12 +18,11 @@ returns-in-Unknown c =
 
 pub returns-in-Known : goal.returns-in-Known
 returns-in-Known c =
-    let s = c in
-    let a = s.args in
+    let a = c.args in
     let f = c.move_corner in
     let known = c.in-Known.known in
     let moved =
     place_read
     (λ (p : Point). (polygons : List ℕ) → Step (Move a.corner p) (prepared_of known a.corners.now a.rings.now polygons a.boxes.now a.parts.now a.edges.now a.undo.now) f.result.answer (prepared_of f.result.state f.new.corners a.rings.now polygons f.new.boxes a.parts.now a.edges.now f.new.undo))
-    a.x a.y s.ranges.x s.ranges.y f.ensures in
+    a.x a.y c.ranges.x c.ranges.y f.ensures in
     correction_known (state_named a.state) c.in-Known.known _ _ _ c.move_corner.result _ (sym c.state_of.ensures ∙ c.in-Known.is) moved c.correction_answer.ensures

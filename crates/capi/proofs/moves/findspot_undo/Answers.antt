@@ -11,6 +11,5 @@ returns-in-Unknown c =
 
 pub returns-in-Known : goal.returns-in-Known
 returns-in-Known c =
-    let s = c in
-    let a = s.args in
+    let a = c.args in
     correction_known (state_named a.state) c.in-Known.known _ _ _ c.undo.result _ (sym c.state_of.ensures ∙ c.in-Known.is) c.undo.ensures c.correction_answer.ensures

@@ -15,13 +15,13 @@ read : (b : Rect) → NearRect b → le_z (rd (rd b.max.y -ℤ rd b.min.y)) (rd 
 read b N = λ i. le_z (gap_is b.max.y b.min.y N.max_y N.min_y i) (gap_is b.max.x b.min.x N.max_x N.min_x i)
 
 pub overflow_sub-b : goal.overflow_sub-b
-overflow_sub-b c = let s = c in gap_fits s.args.b.max.y s.args.b.min.y s.requires.max_y s.requires.min_y
+overflow_sub-b c = gap_fits c.args.b.max.y c.args.b.min.y c.requires.max_y c.requires.min_y
 
 pub overflow_sub-b-2 : goal.overflow_sub-b-2
-overflow_sub-b-2 c = let s = c in gap_fits s.args.b.max.x s.args.b.min.x s.requires.max_x s.requires.min_x
+overflow_sub-b-2 c = gap_fits c.args.b.max.x c.args.b.min.x c.requires.max_x c.requires.min_x
 
 pub returns-then-b : goal.returns-then-b
-returns-then-b c = let s = c in ap (λ t. cond t X Y) (sym c.if-b.true ∙ read s.args.b s.requires)
+returns-then-b c = ap (λ t. cond t X Y) (sym c.if-b.true ∙ read c.args.b c.requires)
 
 pub returns : goal.returns
-returns c = let s = c in ap (λ t. cond t X Y) (sym c.if-b.false ∙ read s.args.b s.requires)
+returns c = ap (λ t. cond t X Y) (sym c.if-b.false ∙ read c.args.b c.requires)

@@ -14,21 +14,19 @@ use Rattle.cut.proofs.keys.pack.Goals.{After-key_of, In-loop-i}
 
 pub loop-i-init : goal.loop-i-init
 loop-i-init c =
-    let s = c in
-    let a = s.args in (
+    let a = c.args in (
       omega arith,
       omega arith,
-      λ some. (searchable a.n a.count a.rings.now s.requires.ring_ends (get_or a.edges.now a.first 0) (s.requires.names.each a.first (omega arith) some)).0,
+      λ some. (searchable a.n a.count a.rings.now c.requires.ring_ends (get_or a.edges.now a.first 0) (c.requires.names.each a.first (omega arith) some)).0,
       mapped_none (packed_edge a.corners.now a.rings.now a.axis) a.first a.edges.now,
     )
 
 -- the edge that is packed
 named : (c : In-loop-i) → get_or c.loop-i.edges c.loop-i.i 0 < c.args.n
 named c =
-    let s = c in
-    let a = s.args in
+    let a = c.args in
     let l = c.loop-i in
-    mapped_names (packed_edge a.corners.now a.rings.now a.axis) a.n a.first a.size l.i a.edges.now l.edges l.invariant.3 s.requires.names l.invariant.0 c.loop-i-test.true
+    mapped_names (packed_edge a.corners.now a.rings.now a.axis) a.n a.first a.size l.i a.edges.now l.edges l.invariant.3 c.requires.names l.invariant.0 c.loop-i-test.true
 
 -- the key as it was read
 keyed : (c : After-key_of) → let a = c.args in let l = c.loop-i in rd c.key_of.result ≡ edge_key a.corners.now a.rings.now a.axis (get_or l.edges l.i 0)
@@ -42,29 +40,26 @@ bounds-edges-i c = omega (arith, c.loop-i.invariant.3.long, c.requires.names.ins
 
 pub ring_near-ring-requires : goal.ring_near-ring-requires
 ring_near-ring-requires c =
-    let s = c in
-    let a = s.args in
+    let a = c.args in
     let l = c.loop-i in
-    let asks = searchable a.n a.count a.rings.now s.requires.ring_ends (get_or l.edges l.i 0) (named (goal.at.ring_near-ring-requires c).In-loop-i) in
+    let asks = searchable a.n a.count a.rings.now c.requires.ring_ends (get_or l.edges l.i 0) (named (goal.at.ring_near-ring-requires c).In-loop-i) in
     (l.invariant.2 c.loop-i-test.true, asks.1, asks.2)
 
 pub edge_box-b-requires : goal.edge_box-b-requires
-edge_box-b-requires c = let s = c in record { n_in_bounds = s.requires.corners_near.reach; ring_ends = s.requires.ring_ends; ring_at = c.ring_near-ring.ensures }
+edge_box-b-requires c = record { n_in_bounds = c.requires.corners_near.reach; ring_ends = c.requires.ring_ends; ring_at = c.ring_near-ring.ensures }
 
 pub key_of-requires : goal.key_of-requires
 key_of-requires c =
-    let s = c in
     let l = c.loop-i in
-    rw c.edge_box-b.ensures (edge_near s.args.n s.args.count s.args.corners.now s.args.rings.now s.requires.corners_near s.requires.ring_ends (get_or l.edges l.i 0) (named (goal.at.key_of-requires c).In-loop-i))
+    rw c.edge_box-b.ensures (edge_near c.args.n c.args.count c.args.corners.now c.args.rings.now c.requires.corners_near c.requires.ring_ends (get_or l.edges l.i 0) (named (goal.at.key_of-requires c).In-loop-i))
 
 pub packed-requires : goal.packed-requires
 unfolding edge_key
 packed-requires c =
-    let s = c in
-    let a = s.args in
+    let a = c.args in
     let l = c.loop-i in
     let here = named (goal.at.packed-requires c).In-loop-i in
-    (rw (keyed c) (key_small a.axis (edge_box a.corners.now a.rings.now (get_or l.edges l.i 0)) (edge_near a.n a.count a.corners.now a.rings.now s.requires.corners_near s.requires.ring_ends (get_or l.edges l.i 0) here)), omega (arith, here, s.requires.corners_near.few))
+    (rw (keyed c) (key_small a.axis (edge_box a.corners.now a.rings.now (get_or l.edges l.i 0)) (edge_near a.n a.count a.corners.now a.rings.now c.requires.corners_near c.requires.ring_ends (get_or l.edges l.i 0) here)), omega (arith, here, c.requires.corners_near.few))
 
 pub bounds-edges-i-in-loop-i : goal.bounds-edges-i-in-loop-i
 bounds-edges-i-in-loop-i c = omega (arith, c.loop-i.invariant.3.long, c.requires.names.inside, c.loop-i-test.true)
@@ -77,15 +72,14 @@ loop-i-smaller c = omega (arith, c.loop-i-test.true)
 
 pub loop-i-preserved : goal.loop-i-preserved
 loop-i-preserved c =
-    let s = c in
-    let a = s.args in
+    let a = c.args in
     let l = c.loop-i in
     let g = packed_edge a.corners.now a.rings.now a.axis in
     let more = c.loop-i-test.true in (
       omega (arith, l.invariant.0),
       omega arith,
       λ some. c.ring_near-ring.ensures.ring,
-      mapped_more g a.first l.i a.edges.now l.edges c.packed.result l.invariant.0 (omega (arith, s.requires.names.inside))
+      mapped_more g a.first l.i a.edges.now l.edges c.packed.result l.invariant.0 (omega (arith, c.requires.names.inside))
           (c.packed.ensures ∙ ap (λ key. packed_of key (get_or l.edges l.i 0)) (keyed (goal.at.loop-i-preserved c).After-key_of) ∙ ap g (mapped_next g a.first l.i a.edges.now l.edges l.invariant.3)) l.invariant.3,
     )
 

@@ -6,11 +6,10 @@ use Rattle.cut.proofs.selection.select.Goals.{then-middle-s, else-middle-s}
 
 pub loop-init : goal.loop-init
 loop-init c =
-    let start = c in
-    let a = start.args in
+    let a = c.args in
     let span = c.span_of-scan.result.span in
     let found = c.span_of-scan.ensures in
-    (rw found.read (rounds_start a.lo a.middle a.hi a.values.now span.least span.greatest start.requires.0 start.requires.1 start.requires.2 (omega arith) found.spans), omega arith)
+    (rw found.read (rounds_start a.lo a.middle a.hi a.values.now span.least span.greatest c.requires.0 c.requires.1 c.requires.2 (omega arith) found.spans), omega arith)
 
 pub shape_of-values-then-middle-p : goal.shape_of-values-then-middle-p
 shape_of-values-then-middle-p c = c.loop.invariant.0.state.kept

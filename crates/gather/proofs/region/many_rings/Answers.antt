@@ -13,7 +13,7 @@ use Rattle.gather.proofs.region.many_rings.Goals as goal
 
 pub region_by-requires : goal.region_by-requires
 region_by-requires c =
-    let s = c in record { room = omega arith; as_stated = (s.requires.0, s.requires.1, s.requires.2, ap Meeting (c.ray_rect.ensures ∙ ap (λ root. ray_rect s.args.ray root s.args.p) c.rect_at.ensures)) }
+    record { room = omega arith; as_stated = (c.requires.0, c.requires.1, c.requires.2, ap Meeting (c.ray_rect.ensures ∙ ap (λ root. ray_rect c.args.ray root c.args.p) c.rect_at.ensures)) }
 
 pub returns : goal.returns
 returns c =

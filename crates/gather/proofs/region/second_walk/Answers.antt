@@ -4,7 +4,7 @@ use Rattle.rules.specs.Tables.{polygons_in}
 use Rattle.gather.proofs.region.second_walk.Goals as goal
 
 pub many_rings-requires : goal.many_rings-requires
-many_rings-requires c = let s = c in (s.requires.0, sym c.in-Polygons.is, ap (λ k. polygons_in k s.args.state.polygons) (sym c.in-Polygons.is), s.requires.1)
+many_rings-requires c = (c.requires.0, sym c.in-Polygons.is, ap (λ k. polygons_in k c.args.state.polygons) (sym c.in-Polygons.is), c.requires.1)
 
 pub many_rings-requires-in-Tree : goal.many_rings-requires-in-Tree
-many_rings-requires-in-Tree c = let s = c in (s.requires.0, sym c.in-Tree.is, ap (λ k. polygons_in k s.args.state.polygons) (sym c.in-Tree.is), s.requires.1)
+many_rings-requires-in-Tree c = (c.requires.0, sym c.in-Tree.is, ap (λ k. polygons_in k c.args.state.polygons) (sym c.in-Tree.is), c.requires.1)

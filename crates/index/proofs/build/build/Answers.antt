@@ -13,13 +13,12 @@ use Rattle.index.proofs.build.build.Goals.{After-parts-1}
 
 root : (c : After-parts-1) → let a = c.args in Rooted a.n a.corners.now a.rings.now a.boxes.now a.parts.now a.edges.now c.put_rect.new.boxes c.put_part.new.parts c.number.new.edges
 root c =
-    let s = c in
     record {
-      boxes_reach = s.requires.n_in_bounds.0;
-      parts_reach = s.requires.n_in_bounds.1;
-      edges_reach = s.requires.n_in_bounds.2;
+      boxes_reach = c.requires.n_in_bounds.0;
+      parts_reach = c.requires.n_in_bounds.1;
+      edges_reach = c.requires.n_in_bounds.2;
       numbers = c.number.ensures;
-      boxes_are = c.put_rect.ensures ∙ ap (λ b. set s.args.boxes.now 0 (row_of b)) c.part_box-whole.ensures;
+      boxes_are = c.put_rect.ensures ∙ ap (λ b. set c.args.boxes.now 0 (row_of b)) c.part_box-whole.ensures;
       parts_are = c.put_part.ensures;
     }
 
@@ -33,8 +32,7 @@ number-requires c = c.requires.n_in_bounds.2
 
 pub part_box-whole-requires : goal.part_box-whole-requires
 part_box-whole-requires c =
-    let s = c in
-    let numbered = c.number.ensures in record { n_in_bounds = s.requires.corners_near.reach; ring_ends = s.requires.ring_ends; names = record { inside = omega (arith, numbered.long, s.requires.n_in_bounds.2); each = λ k a b. rw (numbered.inside k (omega arith)) (omega arith) } }
+    let numbered = c.number.ensures in record { n_in_bounds = c.requires.corners_near.reach; ring_ends = c.requires.ring_ends; names = record { inside = omega (arith, numbered.long, c.requires.n_in_bounds.2); each = λ k a b. rw (numbered.inside k (omega arith)) (omega arith) } }
 
 pub put_rect-requires : goal.put_rect-requires
 put_rect-requires c = omega (arith, node_count_some c.args.n, c.requires.n_in_bounds.0)
@@ -44,9 +42,8 @@ put_part-requires c = omega (arith, node_count_some c.args.n, c.requires.n_in_bo
 
 pub loop-top-init : goal.loop-top-init
 loop-top-init c =
-    let s = c in
-    let a = s.args in
-    (building_start a.n a.corners.now a.rings.now a.boxes.now a.parts.now a.edges.now _ _ _ (root c) _ s.requires.corners_near.few refl refl, reading_start a.corners.now a.rings.now _ _ _ _ refl)
+    let a = c.args in
+    (building_start a.n a.corners.now a.rings.now a.boxes.now a.parts.now a.edges.now _ _ _ (root c) _ c.requires.corners_near.few refl refl, reading_start a.corners.now a.rings.now _ _ _ _ refl)
 
 pub overflow_sub-top : goal.overflow_sub-top
 overflow_sub-top c = c.loop-top-test.true
@@ -67,21 +64,19 @@ bounds-parts-p c = let l = c.loop-top in let a = c.args in
 
 pub cut_node-reads-requires : goal.cut_node-reads-requires
 cut_node-reads-requires c =
-    let s = c in
-    let a = s.args in
+    let a = c.args in
     let l = c.loop-top in
     let h = c.loop-top-test.true in
     let big : 8 < count_at l.parts (get_or l.waiting (l.top - 1) 0) = omega (arith, c.if-size-gt-LEAF.true) in
     let inside = turn_inside a.n a.corners.now a.rings.now _ _ _ l.boxes l.parts l.edges l.waiting l.top l.free l.invariant.0 h in
-    let room = turn_room a.n a.corners.now a.rings.now _ _ _ l.boxes l.parts l.edges l.waiting l.top l.free l.invariant.0 h big in record { corners_near = s.requires.corners_near; ring_ends = s.requires.ring_ends; p_lt_free = (inside.0, omega (arith, room.0, l.invariant.0.boxes_reach), omega (arith, room.0, l.invariant.0.parts_reach)); near_rect = turn_near a.n a.corners.now a.rings.now _ _ _ l.boxes l.parts l.edges l.waiting l.top l.free l.invariant.0 h big a.count s.requires.corners_near s.requires.ring_ends; names = turn_names a.n a.corners.now a.rings.now _ _ _ l.boxes l.parts l.edges l.waiting l.top l.free l.invariant.0 h big; part_inside = (omega arith, turn_part a.n a.corners.now a.rings.now _ _ _ l.boxes l.parts l.edges l.waiting l.top l.free l.invariant.0 h big) }
+    let room = turn_room a.n a.corners.now a.rings.now _ _ _ l.boxes l.parts l.edges l.waiting l.top l.free l.invariant.0 h big in record { corners_near = c.requires.corners_near; ring_ends = c.requires.ring_ends; p_lt_free = (inside.0, omega (arith, room.0, l.invariant.0.boxes_reach), omega (arith, room.0, l.invariant.0.parts_reach)); near_rect = turn_near a.n a.corners.now a.rings.now _ _ _ l.boxes l.parts l.edges l.waiting l.top l.free l.invariant.0 h big a.count c.requires.corners_near c.requires.ring_ends; names = turn_names a.n a.corners.now a.rings.now _ _ _ l.boxes l.parts l.edges l.waiting l.top l.free l.invariant.0 h big; part_inside = (omega arith, turn_part a.n a.corners.now a.rings.now _ _ _ l.boxes l.parts l.edges l.waiting l.top l.free l.invariant.0 h big) }
 
 pub overflow_add-reads : goal.overflow_add-reads
 overflow_add-reads c =
-    let s = c in
-    let a = s.args in
+    let a = c.args in
     let l = c.loop-top in
     let h = c.loop-top-test.true in
-    let few = s.requires.corners_near.few in
+    let few = c.requires.corners_near.few in
     let big : 8 < count_at l.parts (get_or l.waiting (l.top - 1) 0) = omega (arith, c.if-size-gt-LEAF.true) in
     let part = turn_part a.n a.corners.now a.rings.now _ _ _ l.boxes l.parts l.edges l.waiting l.top l.free l.invariant.0 h big in
     let inside = turn_inside a.n a.corners.now a.rings.now _ _ _ l.boxes l.parts l.edges l.waiting l.top l.free l.invariant.0 h in
@@ -144,7 +139,6 @@ shape_of-edges c = c.loop-top.invariant.0.frame.edges_long ∙ (framed (goal.at.
 
 pub returns : goal.returns
 returns c =
-    let s = c in
-    let a = s.args in
+    let a = c.args in
     let l = c.loop-top in
-    built a.n a.corners.now a.rings.now a.boxes.now a.parts.now a.edges.now _ _ _ (root (goal.at.returns c).After-parts-1) l.boxes l.parts l.edges l.waiting l.top l.free l.reads l.invariant.0 l.invariant.1 s.requires.corners_near.few c.loop-top-test.false
+    built a.n a.corners.now a.rings.now a.boxes.now a.parts.now a.edges.now _ _ _ (root (goal.at.returns c).After-parts-1) l.boxes l.parts l.edges l.waiting l.top l.free l.reads l.invariant.0 l.invariant.1 c.requires.corners_near.few c.loop-top-test.false

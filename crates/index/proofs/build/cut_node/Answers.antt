@@ -11,40 +11,35 @@ pub axis_of-axis-requires : goal.axis_of-axis-requires
 axis_of-axis-requires c = rw c.rect_at.ensures c.requires.near_rect
 
 pub cut_part-reads-requires : goal.cut_part-reads-requires
-cut_part-reads-requires c = let s = c in record { corners_near = s.requires.corners_near; ring_ends = s.requires.ring_ends; names = s.requires.names; part_inside = s.requires.part_inside }
+cut_part-reads-requires c = record { corners_near = c.requires.corners_near; ring_ends = c.requires.ring_ends; names = c.requires.names; part_inside = c.requires.part_inside }
 
 pub part_box-left-requires : goal.part_box-left-requires
 part_box-left-requires c =
-    let s = c in
-    let f = first_at s.args.parts.now s.args.p in
-    let m = count_at s.args.parts.now s.args.p in record { n_in_bounds = s.requires.corners_near.reach; ring_ends = s.requires.ring_ends; names = names_shuffled s.args.n s.args.edges.now _ f m f (m / 2) s.requires.names c.cut_part-reads.ensures.moved (omega arith) (omega arith) }
+    let f = first_at c.args.parts.now c.args.p in
+    let m = count_at c.args.parts.now c.args.p in record { n_in_bounds = c.requires.corners_near.reach; ring_ends = c.requires.ring_ends; names = names_shuffled c.args.n c.args.edges.now _ f m f (m / 2) c.requires.names c.cut_part-reads.ensures.moved (omega arith) (omega arith) }
 
 pub overflow_add-first : goal.overflow_add-first
-overflow_add-first c = let s = c in omega (arith, s.requires.part_inside.1, s.ranges.n)
+overflow_add-first c = omega (arith, c.requires.part_inside.1, c.ranges.n)
 
 pub part_box-right-requires : goal.part_box-right-requires
 part_box-right-requires c =
-    let s = c in
-    let f = first_at s.args.parts.now s.args.p in
-    let m = count_at s.args.parts.now s.args.p in record { n_in_bounds = s.requires.corners_near.reach; ring_ends = s.requires.ring_ends; names = names_shuffled s.args.n s.args.edges.now _ f m (f + m / 2) _ s.requires.names c.cut_part-reads.ensures.moved (omega arith) (omega arith) }
+    let f = first_at c.args.parts.now c.args.p in
+    let m = count_at c.args.parts.now c.args.p in record { n_in_bounds = c.requires.corners_near.reach; ring_ends = c.requires.ring_ends; names = names_shuffled c.args.n c.args.edges.now _ f m (f + m / 2) _ c.requires.names c.cut_part-reads.ensures.moved (omega arith) (omega arith) }
 
 pub overflow_add-next : goal.overflow_add-next
 overflow_add-next c =
-    let s = c in
-    let room = s.requires.p_lt_free in
-    omega (arith, s.well_formed)
+    let room = c.requires.p_lt_free in
+    omega (arith, c.well_formed)
 
 pub put_children-requires : goal.put_children-requires
 put_children-requires c =
-    let s = c in
-    let room = s.requires.p_lt_free in
-    let part = s.requires.part_inside in
-    let few = s.requires.corners_near.few in record { p_in_bounds = (omega arith, omega arith, omega arith, omega arith, omega arith); rest_bound = omega arith }
+    let room = c.requires.p_lt_free in
+    let part = c.requires.part_inside in
+    let few = c.requires.corners_near.few in record { p_in_bounds = (omega arith, omega arith, omega arith, omega arith, omega arith); rest_bound = omega arith }
 
 pub returns : goal.returns
 returns c =
-    let s = c in
-    let a = s.args in
+    let a = c.args in
     let rect = c.rect_at in
     let axis = c.axis_of-axis in
     let cut = c.cut_part-reads in

@@ -24,9 +24,8 @@ slice_bounds-read_record-start c =
 
 pub after_line-stage-requires : goal.after_line-stage-requires
 after_line-stage-requires c =
-    let a = c.before.before.before.before.before.before in
     let l = c.loop-end in
-    line_countable a.args.text.now l.stage l.line l.from l.end l.invariant a.requires
+    line_countable c.args.text.now l.stage l.line l.from l.end l.invariant c.requires
 
 pub overflow_add-line : goal.overflow_add-line
 overflow_add-line c =

@@ -6,14 +6,12 @@ use Rattle.rays.proofs.along.passing_turn.Goals as goal
 
 pub returns-then-beyond : goal.returns-then-beyond
 returns-then-beyond c =
-    let s = c in
-    let a = s.args in
+    let a = c.args in
     c.left_if.ensures
-    ∙ ahead_turn a.ray a.rises a.a a.b a.p s.requires.0 s.requires.1 ((λ i. sym c.beyond.ensures i && sym c.beyond-2.ensures i) ∙ c.if-beyond.true)
+    ∙ ahead_turn a.ray a.rises a.a a.b a.p c.requires.0 c.requires.1 ((λ i. sym c.beyond.ensures i && sym c.beyond-2.ensures i) ∙ c.if-beyond.true)
 
 pub returns-then-beyond-2 : goal.returns-then-beyond-2
 returns-then-beyond-2 c =
-    let s = c in
-    let a = s.args in
+    let a = c.args in
     c.left_if-then-beyond-2.ensures
-    ∙ behind_turn a.ray a.rises a.a a.b a.p s.requires.0 s.requires.1 ((λ i. sym c.beyond-3.ensures i && sym c.beyond-4.ensures i) ∙ c.if-beyond-2.true)
+    ∙ behind_turn a.ray a.rises a.a a.b a.p c.requires.0 c.requires.1 ((λ i. sym c.beyond-3.ensures i && sym c.beyond-4.ensures i) ∙ c.if-beyond-2.true)

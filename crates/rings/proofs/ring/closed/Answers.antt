@@ -16,16 +16,15 @@ returns-then-is_on c =
     sym (ap (λ on. cond on OnBoundary (cond (is_nonzero (a.winding +ℤ weight_of a.last)) Inside Outside)) (sym c.is_on.ensures ∙ c.if-is_on.true))
 
 pub wound-requires : goal.wound-requires
-wound-requires c = let s = c in omega (arith, s.requires, ap nat_abs (rd_is s.args.winding s.ranges.winding))
+wound-requires c = omega (arith, c.requires, ap nat_abs (rd_is c.args.winding c.ranges.winding))
 
 -- what the two tests say of the definition
 closed_at : (c : After-is_nonzero) (t : Bool) → c.is_nonzero.result ≡ t → let a = c.args in closed_reply a.winding a.last ≡ cond t Inside Outside
 closed_at c t e =
-    let s = c in
-    let a = s.args in
+    let a = c.args in
     let off : is_on a.last ≡ false = sym c.is_on.ensures ∙ c.if-is_on.false in
     let read : is_nonzero (a.winding +ℤ weight_of a.last) ≡ t
-    = ap (λ w. is_nonzero (w +ℤ weight_of a.last)) (sym (rd_is a.winding s.ranges.winding)) ∙ ap is_nonzero (sym c.wound.ensures ∙ sym (rd_is c.wound.result (record { sfits = c.wound.type_inv }))) ∙ sym c.is_nonzero.ensures ∙ e in
+    = ap (λ w. is_nonzero (w +ℤ weight_of a.last)) (sym (rd_is a.winding c.ranges.winding)) ∙ ap is_nonzero (sym c.wound.ensures ∙ sym (rd_is c.wound.result (record { sfits = c.wound.type_inv }))) ∙ sym c.is_nonzero.ensures ∙ e in
     λ i. cond (off i) OnBoundary (cond (read i) Inside Outside)
 
 pub returns-then-is_nonzero : goal.returns-then-is_nonzero

@@ -14,8 +14,7 @@ use Rattle.rings.proofs.ring.ring_reply.Goals as goal
 use Rattle.rings.proofs.ring.ring_reply.Goals.{After-is_on}
 
 pub returns-then-first-end : goal.returns-then-first-end
-returns-then-first-end c = let s = c in
-    empty (part (corners_of s.args.coordinates.now) s.args.first s.args.end) s.args.p (ap (λ e. part (corners_of s.args.coordinates.now) s.args.first e) (sym c.if-first-end.true) ∙ part_none (corners_of s.args.coordinates.now) s.args.first)
+returns-then-first-end c = empty (part (corners_of c.args.coordinates.now) c.args.first c.args.end) c.args.p (ap (λ e. part (corners_of c.args.coordinates.now) c.args.first e) (sym c.if-first-end.true) ∙ part_none (corners_of c.args.coordinates.now) c.args.first)
 
 pub corner_at-start-requires : goal.corner_at-start-requires
 corner_at-start-requires c = omega arith

@@ -10,7 +10,7 @@ pub overflow_add-first : goal.overflow_add-first
 overflow_add-first c = let h = (byte_inside c.args.text.now c.args.at c.next_byte-first.result c.next_byte-first.ensures 39 c.if-first-eq40.true) in let l = c.requires.0 in omega (arith, h, l)
 
 pub polygon-requires : goal.polygon-requires
-polygon-requires c = let s = c in let h = (byte_inside c.args.text.now c.args.at c.next_byte-first.result c.next_byte-first.ensures 39 c.if-first-eq40.true) in let o = c.next_byte-first.ensures.skipped.on in (s.requires.0, omega (arith, h), fewer s.args.extent s.args.at (c.next_byte-first.result.at + 1) (omega (arith, o)) s.requires.2)
+polygon-requires c = let h = (byte_inside c.args.text.now c.args.at c.next_byte-first.result c.next_byte-first.ensures 39 c.if-first-eq40.true) in let o = c.next_byte-first.ensures.skipped.on in (c.requires.0, omega (arith, h), fewer c.args.extent c.args.at (c.next_byte-first.result.at + 1) (omega (arith, o)) c.requires.2)
 
 pub shape_of-corners-then-first-eq40 : goal.shape_of-corners-then-first-eq40
 shape_of-corners-then-first-eq40 c = c.polygon.auto.corners

@@ -10,7 +10,7 @@ pub no_extent-so_far-requires : goal.no_extent-so_far-requires
 no_extent-so_far-requires c = tt
 
 pub loop-place-init : goal.loop-place-init
-loop-place-init c = let s = c in let a = s.args in no_members a.text.now a.at a.corners.now a.lengths.now a.counts.now c.no_extent-so_far.result c.no_extent-so_far.ensures s.requires.1
+loop-place-init c = let a = c.args in no_members a.text.now a.at a.corners.now a.lengths.now a.counts.now c.no_extent-so_far.result c.no_extent-so_far.ensures c.requires.1
 
 pub member-requires : goal.member-requires
 member-requires c = let l = c.loop-place.invariant in (c.requires.0, l.inside, l.few)

@@ -11,7 +11,7 @@ use Rattle.scanner.proofs.PolygonScans.{no_rings, corners_length, lengths_length
 use Rattle.scanner.proofs.polygons.polygon.Goals as goal
 
 pub loop-place-init : goal.loop-place-init
-loop-place-init c = let s = c in let a = s.args in (no_rings a.text.now a.at a.extent a.corners.now a.lengths.now s.requires.1 s.requires.2, refl)
+loop-place-init c = let a = c.args in (no_rings a.text.now a.at a.extent a.corners.now a.lengths.now c.requires.1 c.requires.2, refl)
 
 pub ring_at-requires : goal.ring_at-requires
 ring_at-requires c = let l = c.loop-place.invariant.0 in (c.requires.0, l.inside, l.few)

@@ -27,7 +27,7 @@ pub next_byte-next-requires : goal.next_byte-next-requires
 next_byte-next-requires c = let q = subst (PositionRead c.args.text.now c.loop-place.place) c.in-At.is c.read_position.ensures in q.ends.1
 
 pub with_ring-requires : goal.with_ring-requires
-with_ring-requires c = let s = c in let o = c.loop-place.invariant.0.on in let i = c.loop-place.invariant.0.inside in let l = s.requires.0 in (fewer s.args.extent s.args.at 65536 (omega (arith, o, i, l)) s.requires.2, omega (arith, o, i, l))
+with_ring-requires c = let o = c.loop-place.invariant.0.on in let i = c.loop-place.invariant.0.inside in let l = c.requires.0 in (fewer c.args.extent c.args.at 65536 (omega (arith, o, i, l)) c.requires.2, omega (arith, o, i, l))
 
 pub overflow_add-result : goal.overflow_add-result
 overflow_add-result c = let h = (byte_inside c.args.text.now c.in-At.end c.next_byte-next.result c.next_byte-next.ensures 40 c.if-next-eq41.true) in let l = c.requires.0 in omega (arith, h, l)

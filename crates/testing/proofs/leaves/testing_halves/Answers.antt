@@ -8,9 +8,8 @@ use Rattle.testing.proofs.leaves.testing_halves.Goals as goal
 
 pub returns : goal.returns
 returns c =
-    let s = c in
-    let z = s.args.z in
-    let f = s.ranges.z in
+    let z = c.args.z in
+    let f = c.ranges.z in
     let down = c.floor_half in
     let up = c.ceiling_half in
     let grid = c.in_range.ensures ∙ ap (λ x. in_range (record { x = x; y = pos 0 })) (rd_is z f) in

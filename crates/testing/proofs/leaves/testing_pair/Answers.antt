@@ -7,11 +7,10 @@ use Rattle.testing.proofs.leaves.testing_pair.Goals as goal
 
 pub returns : goal.returns
 returns c =
-    let s = c in
-    let a = s.args.a in
-    let b = s.args.b in
-    let fa = s.ranges.a in
-    let fb = s.ranges.b in
+    let a = c.args.a in
+    let b = c.args.b in
+    let fa = c.ranges.a in
+    let fb = c.ranges.b in
     let m = c.min in
     record {
       least = got₂ min_z a b m.result fa fb (record { sfits = m.type_inv }) m.ensures;

@@ -19,8 +19,7 @@ module _ (c : After-difference-2) where
 
 pub signed_product-requires : goal.signed_product-requires
 signed_product-requires c =
-    let s = c in
-    subst (λ z. nat_abs z < word_pair) (sym (exact c)) (product_fits s.args.a s.args.b s.args.c s.args.d s.ranges.a s.ranges.b s.ranges.c s.ranges.d)
+    subst (λ z. nat_abs z < word_pair) (sym (exact c)) (product_fits c.args.a c.args.b c.args.c c.args.d c.ranges.a c.ranges.b c.ranges.c c.ranges.d)
 
 pub returns : goal.returns
 returns c = c.words_of.ensures ∙ c.signed_product.ensures ∙ exact (goal.at.returns c).After-difference-2

@@ -5,6 +5,5 @@ use Rattle.testing.proofs.look_ups.testing_locate_in_plan.Goals as goal
 
 pub returns : goal.returns
 returns c =
-    let s = c in
-    let a = s.args in
-    plan_number plan_reply c.kind_of.result _ a.coordinates.now a.lengths.now a.counts.now a.x a.y c.locate.result c.reply_number.result s.ranges.x s.ranges.y (record { sfits = c.reply_number.type_inv }) c.kind_of.ensures c.locate.ensures c.reply_number.ensures
+    let a = c.args in
+    plan_number plan_reply c.kind_of.result _ a.coordinates.now a.lengths.now a.counts.now a.x a.y c.locate.result c.reply_number.result c.ranges.x c.ranges.y (record { sfits = c.reply_number.type_inv }) c.kind_of.ensures c.locate.ensures c.reply_number.ensures
