@@ -1,4 +1,4 @@
--- A signed value that went through bits, `to_z w64 (of_z w64 z)`, as the machine leaves it in a need. Assumes nothing.
+-- A signed value that went through bits, `to_z w64 (of_z w64 z)`, as the machine leaves it in a goal. Assumes nothing.
 use Rattle.std.proofs.Common.{◌≡◌, ◌^◌, ◌<◌, ℤ, nat_abs, sym, ◌∙◌, subst, arith, to_z-of_z, w64, SFits, to_z, of_z}
 use Rattle.integers.proofs.Order.{abs_parts, mag_parts}
 

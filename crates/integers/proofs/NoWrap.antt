@@ -1,4 +1,4 @@
--- Signed arithmetic as the machine leaves it in a need: each operand is read back from its bits, `to_z w (of_z w x)`.
+-- Signed arithmetic as the machine leaves it in a goal: each operand is read back from its bits, `to_z w (of_z w x)`.
 -- `raw w ρ e` is what the last operation of `e` gives before it is stored, `mev w ρ e` what is read back. Where all sizes fit, both are `eval ρ e`.
 use Rattle.std.proofs.Common.{◌≡◌, ℕ, ◌^◌, Bool, ◌&&◌, T, ltb, List, ℤ, ◌+ℤ◌, ◌-ℤ◌, ◌*ℤ◌, neg_ℤ, sym, refl, ap, ◌∙◌, subst, ap₂, SFits, to_z, of_z}
 use mir.Syntax.{Width}
@@ -51,10 +51,10 @@ module _ (w : Width) (ρ : List ℤ) (β : List ℕ) (h : Within ρ β) where
       ap₂ ◌*ℤ◌ (back a l (raw_ok a l)) (back b r (raw_ok b r))
   raw_ok (neg a) t = let u = and_right (here w β (neg a)) (small w β a) t in ap neg_ℤ (back a u (raw_ok a u))
 
-  -- an operation's result fits: the need `sub-result` and its like
+  -- an operation's result fits: the goal `overflow_sub-result` and its like
   pub need : (e : Expr) → T (small w β e) → SFits w (raw w ρ e)
   need e t = subst (SFits w) (sym (raw_ok e t)) (fits w ρ β e h (small_here w β e t))
 
-  -- and is what the expression says: the need `returns`
+  -- and is what the expression says: the goal `returns`
   pub result : (e : Expr) → T (small w β e) → to_z w (of_z w (raw w ρ e)) ≡ eval ρ e
   result e t = back e t (raw_ok e t)

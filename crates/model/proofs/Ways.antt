@@ -116,7 +116,7 @@ sound_reaches call d s = record {
 }
 
 pub sound_names : (d : Prepared) → Sound d → 0 < d.state.undo_depth → NamesCorner Undo d
-sound_names d s h = let k = d.state.undo_depth - 1 in (s.records.corner k (omega arith), s.records.place k (omega arith))
+sound_names d s h = let k = d.state.undo_depth - 1 in (omega (arith, s.records.corner k (omega arith)), s.records.place k (omega arith))
 
 -- ---- a look-up: outside before a table is read, else a place or 15, and on sound tables its place
 

@@ -16,7 +16,6 @@ returns-then-ring-fold c =
 
 pub returns-in-Nowhere : goal.returns-in-Nowhere
 returns-in-Nowhere c =
-    let a = c.args in
     let nowhere = rw c.in-Nowhere.is at c.span_of.ensures in
     λ n R h places F is. absurd (nowhere n R h)
 

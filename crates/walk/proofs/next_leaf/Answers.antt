@@ -40,8 +40,6 @@ returns-in-Unsound c =
 
 pub loop-here-smaller : goal.loop-here-smaller
 loop-here-smaller c =
-    let a = c.args in
-    let l = c.loop-here in
     omega (arith, (advanced c).same, (advanced c).met, (advanced c).more)
 
 pub loop-here-preserved : goal.loop-here-preserved

@@ -27,7 +27,7 @@ pub put_reply-at-requires : goal.put_reply-at-requires
 put_reply-at-requires c = let l = c.loop-end in let a = c.args in (c.requires.0, asked_room (plan_of a.state a.corners.now a.rings.now a.polygons.now) a.input.now a.first a.number a.output.now c.requires.1 l.output l.at l.line l.from l.end l.invariant c.loop-end-test.true c.in-Asks.query (sym c.read_query.ensures ∙ c.in-Asks.is))
 
 pub overflow_add-line : goal.overflow_add-line
-overflow_add-line c = let l = c.loop-end in let a = c.args in let n = l.invariant.numbered in let f = l.invariant.few in let p = c.requires.1.small in omega arith
+overflow_add-line c = let l = c.loop-end in let n = l.invariant.numbered in let f = l.invariant.few in let p = c.requires.1.small in omega arith
 
 pub overflow_add-from : goal.overflow_add-from
 overflow_add-from c = omega arith

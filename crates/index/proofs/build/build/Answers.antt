@@ -95,7 +95,7 @@ push-requires c = let a = c.args in let l = c.loop-top in
     omega (arith, (turn_room a.n a.corners.now a.rings.now _ _ _ l.boxes l.parts l.edges l.waiting l.top l.free l.invariant.0 c.loop-top-test.true (omega (arith, c.if-size-gt-LEAF.true))).1, l.invariant.0.shaping.stack, c.loop-top-test.true)
 
 pub overflow_add-top : goal.overflow_add-top
-overflow_add-top c = let a = c.args in let l = c.loop-top in omega (arith, l.invariant.0.shaping.shallow_stack)
+overflow_add-top c = let l = c.loop-top in omega (arith, l.invariant.0.shaping.shallow_stack)
 
 pub overflow_add-free-then-size-gt-LEAF : goal.overflow_add-free-then-size-gt-LEAF
 overflow_add-free-then-size-gt-LEAF c = let a = c.args in let l = c.loop-top in

@@ -49,7 +49,7 @@ loop-end-preserved c =
     let a = c.args in
     let l = c.loop-end in
     subst (λ (stage : Stage). Judging a.text.now stage (l.line + 1) (l.end + 1) c.find-end-in-loop-end.result) (sym (c.after_line-stage.ensures ∙ ap (stage_after l.line l.stage) c.read_record-row.ensures))
-    (judging_onward a.text.now l.stage l.line l.from l.end l.invariant c.loop-end-test.true c.find-end-in-loop-end.result c.find-end-in-loop-end.ensures)
+    (judging_onward a.text.now l.stage l.line l.from l.end l.invariant (omega (arith, c.loop-end-test.true)) c.find-end-in-loop-end.result c.find-end-in-loop-end.ensures)
 
 pub returns : goal.returns
 returns c =

@@ -5,7 +5,7 @@ use Rattle.prepare.proofs.Indexing.{counted_built}
 use Rattle.prepare.proofs.tables.put_index.Goals as goal
 
 pub returns-then-state : goal.returns-then-state
-returns-then-state c = record { unwritten = λ e. (refl, refl, refl); built = λ e. absurd (true≢false (sym c.if-state.true ∙ e)) }
+returns-then-state c = record { unwritten = λ e. (refl, refl, refl); built = λ e. absurd (true≢false (sym (rw e at c.if-state.true))) }
 
 pub build-requires : goal.build-requires
 build-requires c =
