@@ -50,13 +50,18 @@ module _ (passes : ℕ → Bool) where
   each_made zero f = refl
   each_made (suc m) f = λ i. each_made m (λ k l. f k (omega arith)) i && f m (omega arith) i
 
+-- what fails makes the whole fail
+and_none : (b : Bool) → false ≡ (b && false)
+and_none true = refl
+and_none false = refl
+
 -- ---- a node is cut and both its children's places are below a length
 module _ (m : Node) (len : ℕ) where
   pub leaf_has_none : m.count ≤ 8 → false ≡ has_children m len
   leaf_has_none few = sym (ap (λ b. b && ltb (m.child + 1) len) (le-ltb 8 m.count few))
 
-  pub left_past : 8 < m.count → len ≤ m.child → false ≡ has_children m len
-  left_past cut past = sym (λ i. lt-ltb 8 m.count cut i && le-ltb (m.child + 1) len (omega arith) i)
+  pub left_past : len ≤ m.child → false ≡ has_children m len
+  left_past past = and_none (ltb 8 m.count) ∙ sym (ap (λ b. ltb 8 m.count && b) (le-ltb (m.child + 1) len (omega arith)))
 
   pub cut_has_both : 8 < m.count → ltb (m.child + 1) len ≡ has_children m len
   cut_has_both cut = sym (ap (λ b. b && ltb (m.child + 1) len) (lt-ltb 8 m.count cut))
