@@ -157,7 +157,9 @@ fn few_rings(
     )
 }
 
-// By a slot for each ring.
+// By a slot for each ring. A function of its own in the machine's code too: as a part of `region_along` it would have each look-up touch all pages
+// of half a mebibyte before its first step.
+#[inline(never)]
 fn many_rings(
     kind: Kind,
     polygon_count: usize,
@@ -196,9 +198,7 @@ fn many_rings(
     )
 }
 
-// By a slot for each ring, where a list has not been enough. Two calls with arguments of their own, so that the compiler keeps
-// `many_rings` a function: as a part of `region_along` it would have each look-up touch all pages of half a mebibyte before its first
-// step.
+// By a slot for each ring, where a list has not been enough.
 fn second_walk(
     ray: Ray,
     state: State,
