@@ -5,9 +5,11 @@ use mathlib.Core.List.{List, [], ◌∷◌, ◌++◌}
 use Prim.Native.Nat.{ℕ, suc, ◌+◌, ◌*◌, ◌≤◌, ◌<◌}
 use native.Mathlib.Omega.{arith}
 use lib.Dec.{ltb}
+use lib.IntN.{ℤ}
 use lib.ListN.{length, length-append}
 use borrow.Author.Tests.{ltb-false}
-use Rattle.fields.specs.declared.Number.{Number}
+use Rattle.std.specs.Prelude.{Option, Some, None, option_map}
+use Rattle.geom.specs.declared.Point.{Point}
 use Rattle.fields.specs.Bytes.{same_bytes}
 use Rattle.fields.specs.Decimals.{number_of}
 use Rattle.fields.specs.Pieces.{split}
@@ -17,17 +19,15 @@ use Rattle.fields.proofs.Written.{digits_below}
 use Rattle.rules.specs.declared.Kind.TheVariants.{Polygons}
 use Rattle.rules.specs.declared.Location.{Location}
 use Rattle.rules.specs.declared.Location.TheVariants.{Outside, Inside, OnBoundary}
-use Rattle.rules.specs.Plans.{Plan, plan_reply, plan_half_reply}
+use Rattle.rules.specs.Plans.{Plan}
 use Rattle.lines.specs.declared.records.Record.{Record}
 use Rattle.lines.specs.Plans.{Meaning, start_meaning, gives_meaning, broken_meaning, size_of, grown, empty_plan, is_header, allowed, after_line, at_end, after_lines, meaning}
 use Rattle.lines.specs.Records.{record_of}
 use Rattle.lines.proofs.Spans.{span, span_split}
-use Rattle.asked.specs.declared.Line.{Line}
-use Rattle.asked.specs.declared.Line.TheVariants.{Asks, Malformed}
-use Rattle.asked.specs.declared.Named.{Named}
-use Rattle.asked.specs.declared.Query.{Query}
-use Rattle.asked.specs.declared.Query.TheVariants.{OnGrid, Doubled}
-use Rattle.asked.specs.Queries.{point_from, point_of, grid_query, half_query, word_query, query_of, asks}
+use Rattle.rules.specs.declared.Spot.{Spot}
+use Rattle.rules.specs.Spots.{spot_reply}
+use Rattle.rules.specs.declared.Spot.TheVariants.{OnGrid, Doubled}
+use Rattle.asked.specs.Queries.{point_from, point_of, word_query, query_of, asks}
 use Rattle.answers.specs.Replies.{place_word, reply_word, reply_line, refusal_line, answer_line, answer_end, replies}
 use Rattle.answers.specs.Answers.{plan_text, after_plan, too_large, judged, answered}
 use Rattle.asked.specs.Words.{grid_word, half_word}
@@ -36,15 +36,15 @@ use Rattle.answers.proofs.Lines.{reply_length, refusal_length}
 
 -- ---- a query's line has eight bytes or more
 
-abbrev least : Line → ℕ
-least (Asks query) = 8
-least Malformed = 0
+abbrev least : Option Spot → ℕ
+least (Some query) = 8
+least None = 0
 
-abbrev least_named : Named → ℕ
-least_named (Named.Is p) = 2
-least_named Named.Malformed = 0
+abbrev least_named : Option Point → ℕ
+least_named (Some p) = 2
+least_named None = 0
 
-number_long : (field : List ℕ) → (n : Number) → number_of field ≡ n → (n ≡ Number.Malformed → ⊥) → 1 ≤ length field
+number_long : (field : List ℕ) → (n : Option ℤ) → number_of field ≡ n → (n ≡ None → ⊥) → 1 ≤ length field
 number_long [] n e d = absurd (d (sym e ∙ sym (no_number [] refl)))
 number_long (x ∷ field) n e d = omega arith
 
@@ -52,30 +52,26 @@ point_long : (x y : List ℕ) → least_named (point_of x y) ≤ length x + leng
 unfolding point_of
 point_long x y = go (number_of x) (number_of y) refl refl
   where
-    go : (m n : Number) → number_of x ≡ m → number_of y ≡ n → least_named (point_from m n) ≤ length x + length y
-    go (Number.Is a) (Number.Is b) p q =
-        let j = number_long x (Number.Is a) p (λ e. let one : ◌≡◌ {A = ℕ} 0 1 = cc in omega arith) in
-        let k = number_long y (Number.Is b) q (λ e. let one : ◌≡◌ {A = ℕ} 0 1 = cc in omega arith) in
+    go : (m n : Option ℤ) → number_of x ≡ m → number_of y ≡ n → least_named (point_from m n) ≤ length x + length y
+    go (Some a) (Some b) p q =
+        let j = number_long x (Some a) p (λ e. let one : ◌≡◌ {A = ℕ} 0 1 = cc in omega arith) in
+        let k = number_long y (Some b) q (λ e. let one : ◌≡◌ {A = ℕ} 0 1 = cc in omega arith) in
         omega arith
-    go (Number.Is a) Number.Malformed p q = omega arith
-    go Number.Malformed (Number.Is b) p q = omega arith
-    go Number.Malformed Number.Malformed p q = omega arith
+    go (Some a) None p q = omega arith
+    go None (Some b) p q = omega arith
+    go None None p q = omega arith
 
-grid_least : (named : Named) (n : ℕ) → least_named named ≤ n → least (grid_query named) ≤ n + 6
-grid_least (Named.Is p) n h = omega arith
-grid_least Named.Malformed n h = omega arith
-
-half_least : (named : Named) (n : ℕ) → least_named named ≤ n → least (half_query named) ≤ n + 6
-half_least (Named.Is p) n h = omega arith
-half_least Named.Malformed n h = omega arith
+query_least : (query : Point → Spot) (named : Option Point) (n : ℕ) → least_named named ≤ n → least (option_map query named) ≤ n + 6
+query_least query (Some p) n h = omega arith
+query_least query None n h = omega arith
 
 word_least : (word x y : List ℕ) → least (word_query word x y) ≤ length word + 1 + (length x + 1 + length y)
 unfolding word_query
 word_least word x y = go (same_bytes word grid_word) (same_bytes word half_word) refl refl
   where
-    go : (a b : Bool) → same_bytes word grid_word ≡ a → same_bytes word half_word ≡ b → least (cond a (grid_query (point_of x y)) (cond b (half_query (point_of x y)) Malformed)) ≤ length word + 1 + (length x + 1 + length y)
-    go true b p q = let w = ap length (same_equal word grid_word p) in let h = grid_least (point_of x y) (length x + length y) (point_long x y) in omega arith
-    go false true p q = let w = ap length (same_equal word half_word q) in let h = half_least (point_of x y) (length x + length y) (point_long x y) in omega arith
+    go : (a b : Bool) → same_bytes word grid_word ≡ a → same_bytes word half_word ≡ b → least (cond a (option_map OnGrid (point_of x y)) (cond b (option_map Doubled (point_of x y)) None)) ≤ length word + 1 + (length x + 1 + length y)
+    go true b p q = let w = ap length (same_equal word grid_word p) in let h = query_least OnGrid (point_of x y) (length x + length y) (point_long x y) in omega arith
+    go false true p q = let w = ap length (same_equal word half_word q) in let h = query_least Doubled (point_of x y) (length x + length y) (point_long x y) in omega arith
     go false false p q = omega arith
 
 fields_least : (fields : List (List ℕ)) → least (query_of fields) ≤ span fields
@@ -96,22 +92,21 @@ place_short Outside = omega arith
 place_short Inside = omega arith
 place_short OnBoundary = omega arith
 
-word_short : (plan : Plan) (query : Query) → length (reply_word plan query) ≤ 8
-word_short plan (OnGrid p) = place_short (plan_reply plan p)
-word_short plan (Doubled p) = place_short (plan_half_reply plan p)
+word_short : (plan : Plan) (spot : Spot) → length (reply_word plan spot) ≤ 8
+word_short plan spot = place_short (spot_reply plan spot)
 
 pub refusal_short : (number line : ℕ) → number < 100000 → line < 100000 → length (refusal_line number line) ≤ 20
 refusal_short number line h k = let l = refusal_length number line in let a = digits_below 4 number h in let b = digits_below 4 line k in omega arith
 
 -- ---- line by line
 
-one_short : (plan : Plan) (k : ℕ) (line : List ℕ) (said : Line) (rest : List ℕ) (n : ℕ) → k < 100000 → least said ≤ length line → length rest ≤ 2 * n + 20 → length (answer_line plan k line said rest) ≤ 2 * (length line + 1 + n) + 20
-one_short plan k line (Asks query) rest n h l r =
+one_short : (plan : Plan) (k : ℕ) (line : List ℕ) (said : Option Spot) (rest : List ℕ) (n : ℕ) → k < 100000 → least said ≤ length line → length rest ≤ 2 * n + 20 → length (answer_line plan k line said rest) ≤ 2 * (length line + 1 + n) + 20
+one_short plan k line (Some query) rest n h l r =
     let a = length-append (reply_line line (reply_word plan query)) rest in
     let b = reply_length line (reply_word plan query) in
     let w = word_short plan query in
     omega arith
-one_short plan k line Malformed rest n h l r = let a = refusal_short 2 k (omega arith) h in omega arith
+one_short plan k line None rest n h l r = let a = refusal_short 2 k (omega arith) h in omega arith
 
 end_short : (k : ℕ) (last : List ℕ) → k < 100000 → length (answer_end k last) ≤ 2 * length last + 20
 end_short k [] h = omega arith

@@ -1,4 +1,5 @@
 -- From what reading the plan's text answers to what is written. Assumes nothing.
+use Rattle.std.specs.Prelude.{Err, Ok, Result}
 use mathlib.Core.Path.{◌≡◌, refl, sym, ap, subst, ◌∙◌}
 use mathlib.Core.Bool.{Bool, true, false, cond, ◌||◌}
 use mathlib.Core.List.{List}
@@ -14,7 +15,6 @@ use Rattle.rules.specs.declared.Table.TheVariants.{Corners, Rings, Polygons}
 use Rattle.rules.specs.Numbers.{refusal_number}
 use Rattle.rules.specs.Plans.{Plan, corner_count}
 use Rattle.lines.specs.declared.Size.{Size}
-use Rattle.text.specs.declared.Reading.TheVariants.{Read, Refused}
 use Rattle.lines.specs.Plans.{Meaning, start_meaning, gives_meaning, broken_meaning, meaning, size_of}
 use Rattle.text.specs.Readings.{with_room, reading_of, reading}
 use Rattle.text.proofs.Answers.{different, Given}
@@ -39,27 +39,27 @@ module _ (refusal : Refusal) (lines : List (List ℕ)) where
   abbrev Written : Meaning → Type 0
   Written m = refusal_line (refusal_number refusal) (line_named refusal) ≡ judged m lines
 
-  written_as : (other : Refusal) → Refused refusal ≡ Refused other → refusal_line (refusal_number refusal) (line_named refusal) ≡ refusal_line (refusal_number other) (line_named other)
+  written_as : (other : Refusal) → ◌≡◌ {A = Result Size Refusal} (Err refusal) (Err other) → refusal_line (refusal_number refusal) (line_named refusal) ≡ refusal_line (refusal_number other) (line_named other)
   written_as other e = let same : refusal ≡ other = cc in ap (λ r. refusal_line (refusal_number r) (line_named r)) same
 
-  by_room : (plan : Plan) → Refused refusal ≡ with_room (size_of plan) 1024 256 256 → Written (gives_meaning plan)
+  by_room : (plan : Plan) → Err refusal ≡ with_room (size_of plan) 1024 256 256 → Written (gives_meaning plan)
   by_room plan e = go (ltb 1024 (2 * corner_count plan)) (ltb 256 (length plan.lengths)) (ltb 256 (length plan.counts)) e ∙ ap (λ b. cond (b || (ltb 256 (length plan.lengths) || ltb 256 (length plan.counts))) (refusal_line 11 0) (after_plan plan 1 lines)) (sym (corners_test (corner_count plan)))
     where
-      go : (a b c : Bool) → Refused refusal ≡ cond a (Refused (TableTooShort Corners)) (cond b (Refused (TableTooShort Rings)) (cond c (Refused (TableTooShort Polygons)) (Read (size_of plan)))) → refusal_line (refusal_number refusal) (line_named refusal) ≡ cond (a || (b || c)) (refusal_line 11 0) (after_plan plan 1 lines)
+      go : (a b c : Bool) → Err refusal ≡ cond a (Err (TableTooShort Corners)) (cond b (Err (TableTooShort Rings)) (cond c (Err (TableTooShort Polygons)) (Ok (size_of plan)))) → refusal_line (refusal_number refusal) (line_named refusal) ≡ cond (a || (b || c)) (refusal_line 11 0) (after_plan plan 1 lines)
       go true b c h = written_as (TableTooShort Corners) h
       go false true c h = written_as (TableTooShort Rings) h
       go false false true h = written_as (TableTooShort Polygons) h
       go false false false h = different (size_of plan) refusal (sym h)
 
-  by_meaning : (m : Meaning) → Refused refusal ≡ reading_of m 1024 256 256 → Written m
+  by_meaning : (m : Meaning) → Err refusal ≡ reading_of m 1024 256 256 → Written m
   by_meaning start_meaning e = written_as (BadLine 1) e
   by_meaning (gives_meaning plan) e = by_room plan e
   by_meaning (broken_meaning line) e = written_as (BadLine line) e
 
   -- 1 is not for a text that is a part of a small input
-  by_reading : (text : List ℕ) → length text ≤ 65536 → Refused refusal ≡ reading text 1024 256 256 → Written (meaning text)
+  by_reading : (text : List ℕ) → length text ≤ 65536 → Err refusal ≡ reading text 1024 256 256 → Written (meaning text)
   unfolding reading
-  by_reading text h e = by_meaning (meaning text) (e ∙ ap (λ b. cond b (Refused TextTooLong) (reading_of (meaning text) 1024 256 256)) (le-ltb 65536 (length text) h))
+  by_reading text h e = by_meaning (meaning text) (e ∙ ap (λ b. cond b (Err TextTooLong) (reading_of (meaning text) 1024 256 256)) (le-ltb 65536 (length text) h))
 
 -- ---- the input
 
@@ -67,10 +67,10 @@ module _ (input : List ℕ) (small : length input ≤ 16384) (place : Place) (g 
   part_small : length (take place.from input) ≤ 65536
   part_small = let w = g.within in let l = length-take place.from input in omega arith
 
-  pub refused_line : (refusal : Refusal) → Refused refusal ≡ reading (take place.from input) 1024 256 256 → refusal_line (refusal_number refusal) (line_named refusal) ≡ judged (meaning (plan_text (split 10 input))) (split 10 input)
+  pub refused_line : (refusal : Refusal) → Err refusal ≡ reading (take place.from input) 1024 256 256 → refusal_line (refusal_number refusal) (line_named refusal) ≡ judged (meaning (plan_text (split 10 input))) (split 10 input)
   refused_line refusal e = by_reading refusal (split 10 input) (take place.from input) part_small e ∙ ap (λ text. judged (meaning text) (split 10 input)) (sym g.plan_part)
 
-  pub refused_room : (refusal : Refusal) (room : ℕ) → 65536 ≤ room → Refused refusal ≡ reading (take place.from input) 1024 256 256 → 0 + length (refusal_line (refusal_number refusal) (line_named refusal)) ≤ room
+  pub refused_room : (refusal : Refusal) (room : ℕ) → 65536 ≤ room → Err refusal ≡ reading (take place.from input) 1024 256 256 → 0 + length (refusal_line (refusal_number refusal) (line_named refusal)) ≤ room
   refused_room refusal room h e = let l = ap length (refused_line refusal e) in let f = few input small in omega arith
 
   module _ (size : Size) (p : Given (take place.from input) 1024 256 256 size) where

@@ -1,35 +1,20 @@
 -- What the search for the first line that asks knows before each line. Assumes nothing.
 use mathlib.Core.Path.{◌≡◌, refl, sym, ap, ◌∙◌}
-use mathlib.Core.Bool.{Bool, true, false, cond}
+use mathlib.Core.Bool.{true, false, cond}
 use mathlib.Core.List.{List, [], ◌∷◌, ◌++◌, append_assoc, append-nil}
-use Prim.Native.Nat.{ℕ, suc, ◌+◌, ◌-◌, ◌≤◌, ◌<◌}
+use Prim.Native.Nat.{ℕ, suc, ◌+◌, ◌≤◌}
 use native.Mathlib.Numerals.{add-one}
 use native.Mathlib.Omega.{arith}
-use lib.Dec.{eqb}
-use lib.ListN.{length, get_or, take, drop, length-drop, drop_of_length-le}
-use lib.Seq.{take-suc, take-add}
-use borrow.Author.Tests.{eqb-true}
-use Rattle.fields.specs.Pieces.{up_to, split}
-use Rattle.fields.proofs.Pieces.{piece_cut, search_within}
-use Rattle.fields.proofs.Parted.{last_part}
+use lib.ListN.{length, take, drop, length-append, drop_of_length-le, take-append-drop}
+use lib.Seq.{take-add, take_at, drop_at, drop-drop, take-length}
+use Rattle.fields.specs.Pieces.{split, Parted}
+use Rattle.fields.proofs.Pieces.{some_piece, parted_length}
 use Rattle.rules.specs.Plans.{Plan}
-use Rattle.lines.proofs.FieldSearch.{some_piece}
 use Rattle.asked.specs.Queries.{asks}
+use Rattle.answers.specs.declared.parts.Place.{Place}
 use Rattle.answers.specs.Replies.{replies}
 use Rattle.answers.specs.Answers.{plan_text, after_plan, FirstQuery}
 use Rattle.answers.specs.Words.{line_end}
-use Rattle.answers.proofs.Replying.{line_at}
-
--- ---- the byte that a search stops at
-
-separator_there : (separator : ℕ) (s : List ℕ) → up_to separator s < length s → get_or s (up_to separator s) 0 ≡ separator
-unfolding up_to
-separator_there separator [] h = absurd (omega arith)
-separator_there separator (x ∷ xs) h = go (eqb x separator) refl h (λ g. separator_there separator xs g)
-  where
-    go : (b : Bool) → eqb x separator ≡ b → cond b 0 (suc (up_to separator xs)) < suc (length xs) → (up_to separator xs < length xs → get_or xs (up_to separator xs) 0 ≡ separator) → get_or (x ∷ xs) (cond b 0 (suc (up_to separator xs))) 0 ≡ separator
-    go true e g rest = eqb-true x separator e
-    go false e g rest = rest (omega arith)
 
 -- ---- the definitions, a line at a time
 
@@ -65,78 +50,66 @@ module _ (line : List ℕ) (e : asks (split 9 line) ≡ false) where
 
 -- ---- the loop
 
--- no line before `from` asks; the line that starts there has this number and ends at `end`
-pub record Passing (input : List ℕ) (line from end : ℕ) : Type 0 where
-  pub few : from ≤ length input
-  pub found : end ≡ from + up_to 10 (drop from input)
-  pub numbered : line ≤ from + 1
-  pub front : plan_text (split 10 input) ≡ take from input ++ plan_text (split 10 (drop from input))
-  pub rest : (plan : Plan) → after_plan plan 1 (split 10 input) ≡ after_plan plan line (split 10 (drop from input))
+-- no line before the rest asks; the rest starts here, and its first line has this number
+pub record Passing (input : List ℕ) (place : Place) (rest : List ℕ) : Type 0 where
+  pub stands : drop place.from input ≡ rest
+  pub within : place.from + length rest ≡ length input
+  pub numbered : place.line ≤ place.from + 1
+  pub front : plan_text (split 10 input) ≡ take place.from input ++ plan_text (split 10 rest)
+  pub due : (plan : Plan) → after_plan plan 1 (split 10 input) ≡ after_plan plan place.line (split 10 rest)
 
-pub passing_begun : (input : List ℕ) (end : ℕ) → end ≡ 0 + up_to 10 (drop 0 input) → Passing input 1 0 end
-passing_begun input end e = record { few = omega arith; found = e; numbered = omega arith; front = refl; rest = λ plan. refl }
+pub passing_begun : (input : List ℕ) → Passing input (record { from = 0; line = 1 }) input
+passing_begun input = record { stands = refl; within = omega arith; numbered = omega arith; front = refl; due = λ plan. refl }
 
-module _ (input : List ℕ) (line from end : ℕ) (g : Passing input line from end) where
-  pub starts : from ≤ end
-  starts = let f = g.found in omega arith
-
-  pub ends : end ≤ length input
-  ends = let w = search_within 10 input from g.few in let f = g.found in omega arith
-
-  -- a list that starts with a line that asks
-  stopped : (lines : List (List ℕ)) → split 10 (drop from input) ≡ line_at input from end ∷ lines → asks (split 9 (line_at input from end)) ≡ true → FirstQuery input (record { from = from; line = line })
-  stopped lines e a =
+module _ (input : List ℕ) (place : Place) (rest : List ℕ) (g : Passing input place rest) where
+  -- pieces that start with a line that asks
+  stopped : (line : List ℕ) (lines : List (List ℕ)) → split 10 rest ≡ line ∷ lines → asks (split 9 line) ≡ true → FirstQuery input place
+  stopped line lines e a =
+      let w = g.within in
       record {
-        within = g.few;
+        within = omega arith;
         numbered = g.numbered;
-        plan_part = g.front ∙ ap (λ xs. take from input ++ xs) (ap plan_text e ∙ text_over (line_at input from end) lines a) ∙ append-nil (take from input);
-        rest_due = λ plan. g.rest plan ∙ ap (after_plan plan line) e ∙ replies_begin (line_at input from end) lines a plan line ∙ sym (ap (replies plan line) e);
+        plan_part = g.front ∙ ap (λ xs. take place.from input ++ xs) (ap plan_text e ∙ text_over line lines a) ∙ append-nil (take place.from input);
+        rest_due = λ plan. g.due plan ∙ ap (after_plan plan place.line) e ∙ replies_begin line lines a plan place.line ∙ sym (ap (replies plan place.line) (ap (split 10) g.stands ∙ e));
       }
 
-  module _ (h : end < length input) where
-    pub asked_here : asks (split 9 (line_at input from end)) ≡ true → FirstQuery input (record { from = from; line = line })
-    asked_here a = stopped (split 10 (drop (end + 1) input)) (piece_cut 10 input from end g.found h) a
+  module _ (line after : List ℕ) (p : Parted 10 rest line after) where
+    pub asked_here : asks (split 9 line) ≡ true → FirstQuery input place
+    asked_here = stopped line (split 10 after) p.pieces
 
     -- what was passed with the line and its end
-    front_grown : take (end + 1) input ≡ take from input ++ (line_at input from end ++ line_end)
+    front_grown : take (place.from + (length line + 1)) input ≡ take place.from input ++ (line ++ line_end)
     front_grown =
-        let l = length-drop from input in
-        let f = g.found in
-        let place : end + 1 ≡ from + suc (end - from) = omega arith in
-        let size : end - from ≡ up_to 10 (drop from input) = omega arith in
-        let byte : get_or (drop from input) (end - from) 0 ≡ 10 = ap (λ k. get_or (drop from input) k 0) size ∙ separator_there 10 (drop from input) (omega arith) in
-        ap (λ k. take k input) place
-        ∙ take-add from (suc (end - from)) input
-        ∙ ap (λ xs. take from input ++ xs) (take-suc (drop from input) (end - from) 0 (omega arith) ∙ ap (λ x. line_at input from end ++ (x ∷ [])) byte)
+        take-add place.from (length line + 1) input
+        ∙ ap (λ xs. take place.from input ++ xs) (ap (take (length line + 1)) (g.stands ∙ p.whole ∙ sym (append_assoc line line_end after)) ∙ take_at (line ++ line_end) after (length line + 1) (length-append line line_end))
 
-    pub passing_onward : asks (split 9 (line_at input from end)) ≡ false → (next : ℕ) → next ≡ end + 1 + up_to 10 (drop (end + 1) input) → Passing input (line + 1) (end + 1) next
-    passing_onward a next e =
-        let s = starts in
+    pub passing_onward : asks (split 9 line) ≡ false → Passing input (record { from = place.from + (length line + 1); line = place.line + 1 }) after
+    passing_onward a =
+        let w = g.within in
         let n = g.numbered in
-        let cut = piece_cut 10 input from end g.found h in
-        let text = ap plan_text cut ∙ text_on (line_at input from end) a 10 (drop (end + 1) input) in
+        let l = parted_length 10 rest line after p in
+        let text = ap plan_text p.pieces ∙ text_on line a 10 after in
         record {
-          few = omega arith;
-          found = e;
+          stands = sym (drop-drop (length line + 1) place.from input) ∙ ap (drop (length line + 1)) (g.stands ∙ p.whole) ∙ sym (drop-drop 1 (length line) (line ++ 10 ∷ after)) ∙ ap (drop 1) (drop_at line (10 ∷ after) (length line) refl);
+          within = omega arith;
           numbered = omega arith;
-          front = g.front ∙ ap (λ xs. take from input ++ xs) text ∙ sym (append_assoc (take from input) (line_at input from end ++ line_end) (plan_text (split 10 (drop (end + 1) input)))) ∙ ap (λ xs. xs ++ plan_text (split 10 (drop (end + 1) input))) (sym front_grown);
-          rest = λ plan. g.rest plan ∙ ap (after_plan plan line) cut ∙ passed_over (line_at input from end) a plan line (split 10 (drop (end + 1) input)) ∙ ap (λ k. after_plan plan k (split 10 (drop (end + 1) input))) (sym (add-one line));
+          front = g.front ∙ ap (λ xs. take place.from input ++ xs) text ∙ sym (append_assoc (take place.from input) (line ++ line_end) (plan_text (split 10 after))) ∙ ap (λ xs. xs ++ plan_text (split 10 after)) (sym front_grown);
+          due = λ plan. g.due plan ∙ ap (after_plan plan place.line) p.pieces ∙ passed_over line a plan place.line (split 10 after) ∙ ap (λ k. after_plan plan k (split 10 after)) (sym (add-one place.line));
         }
 
-  module _ (h : length input ≤ end) where
-    pub asked_last : asks (split 9 (line_at input from end)) ≡ true → FirstQuery input (record { from = from; line = line })
-    asked_last a = stopped [] (last_part 10 input from end g.few g.found h) a
+  module _ (e : split 10 rest ≡ rest ∷ []) where
+    pub asked_last : asks (split 9 rest) ≡ true → FirstQuery input place
+    asked_last = stopped rest [] e
 
-    pub none_asked : asks (split 9 (line_at input from end)) ≡ false → FirstQuery input (record { from = end; line = line })
+    pub none_asked : asks (split 9 rest) ≡ false → FirstQuery input (record { from = length input; line = place.line })
     unfolding after_plan replies split
     none_asked a =
-        let s = starts in
+        let w = g.within in
         let n = g.numbered in
-        let last = last_part 10 input from end g.few g.found h in
-        let place : end ≡ from + (end - from) = omega arith in
+        let text = ap plan_text e ∙ text_last rest a ∙ sym g.stands in
         record {
-          within = ends;
+          within = omega arith;
           numbered = omega arith;
-          plan_part = g.front ∙ ap (λ xs. take from input ++ xs) (ap plan_text last ∙ text_last (line_at input from end) a) ∙ sym (ap (λ k. take k input) place ∙ take-add from (end - from) input);
-          rest_due = λ plan. g.rest plan ∙ ap (after_plan plan line) last ∙ passed_over (line_at input from end) a plan line [] ∙ sym (ap (λ xs. replies plan line (split 10 xs)) (drop_of_length-le input h));
+          plan_part = g.front ∙ ap (λ xs. take place.from input ++ xs) text ∙ take-append-drop place.from input ∙ sym (take-length input);
+          rest_due = λ plan. g.due plan ∙ ap (after_plan plan place.line) e ∙ passed_over rest a plan place.line [] ∙ sym (ap (λ xs. replies plan place.line (split 10 xs)) (drop_of_length-le input (omega arith)));
         }

@@ -3,7 +3,6 @@ use mathlib.Core.Path.{◌≡◌, refl}
 use mathlib.Core.List.{List, [], ◌∷◌, ◌++◌}
 use Prim.Native.Nat.{ℕ, ◌<◌}
 use lib.ListN.{length, replicate}
-use Rattle.fields.specs.Bytes.{same_bytes}
 use Rattle.fields.specs.Decimals.{digits_within, digits, decimal, worth, value_of, number_of}
 use Rattle.fields.specs.Pieces.{split}
 use Rattle.predicates.specs.Turn.{orientation, on_segment}
@@ -65,7 +64,7 @@ abbrev pub worked_output : List ℕ
 worked_output = lines (grid_word ⇥ n5 ⇥ n5 ⇥ outside ∷ grid_word ⇥ n4 ⇥ n5 ⇥ boundary ∷ grid_word ⇥ n1 ⇥ n5 ⇥ inside ∷ [])
 
 pub worked_answered : answered worked ≡ worked_output
-unfolding answered plan_text after_plan replies asks query_of word_query point_of meaning after_lines grown last_one_more record_of one_field two_fields three_fields split same_bytes number_of value_of worth decimal digits digits_within orientation on_segment edges_from edges_of all_edges edge_winding winding on_edge any_of count_of sum_of total parts_of corners_of rings_of polygons_of all_in_range plan_in_range plan_reply plan_half_reply ring_reply holes_reply polygon_reply list_reply tree_reply doubled_edges half_reply
+unfolding answered plan_text after_plan replies asks query_of word_query point_of meaning after_lines grown last_one_more record_of one_field two_fields three_fields split number_of value_of worth decimal digits digits_within orientation on_segment edges_from edges_of all_edges edge_winding winding on_edge any_of count_of sum_of total parts_of corners_of rings_of polygons_of all_in_range plan_in_range plan_reply plan_half_reply ring_reply holes_reply polygon_reply list_reply tree_reply doubled_edges half_reply
 worked_answered = refl
 
 -- the last two the other way round
@@ -73,12 +72,12 @@ abbrev pub turned : List ℕ
 turned = lines square ++ lines (grid_word ⇥ n1 ⇥ n5 ∷ grid_word ⇥ n5 ⇥ n5 ∷ [])
 
 pub turned_answered : answered turned ≡ lines (grid_word ⇥ n1 ⇥ n5 ⇥ inside ∷ grid_word ⇥ n5 ⇥ n5 ⇥ outside ∷ [])
-unfolding answered plan_text after_plan replies asks query_of word_query point_of meaning after_lines grown last_one_more record_of one_field two_fields three_fields split same_bytes number_of value_of worth decimal digits digits_within orientation on_segment edges_from edges_of all_edges edge_winding winding on_edge any_of count_of sum_of total parts_of corners_of rings_of polygons_of all_in_range plan_in_range plan_reply plan_half_reply ring_reply holes_reply polygon_reply list_reply tree_reply doubled_edges half_reply
+unfolding answered plan_text after_plan replies asks query_of word_query point_of meaning after_lines grown last_one_more record_of one_field two_fields three_fields split number_of value_of worth decimal digits digits_within orientation on_segment edges_from edges_of all_edges edge_winding winding on_edge any_of count_of sum_of total parts_of corners_of rings_of polygons_of all_in_range plan_in_range plan_reply plan_half_reply ring_reply holes_reply polygon_reply list_reply tree_reply doubled_edges half_reply
 turned_answered = refl
 
 -- on the half-grid: doubled (1, 1) is inside, doubled (10, 10) in the hole
 on_half_grid : answered (lines square ++ lines (half_word ⇥ n1 ⇥ n1 ∷ half_word ⇥ n10 ⇥ n10 ∷ [])) ≡ lines (half_word ⇥ n1 ⇥ n1 ⇥ inside ∷ half_word ⇥ n10 ⇥ n10 ⇥ outside ∷ [])
-unfolding answered plan_text after_plan replies asks query_of word_query point_of meaning after_lines grown last_one_more record_of one_field two_fields three_fields split same_bytes number_of value_of worth decimal digits digits_within orientation on_segment edges_from edges_of all_edges edge_winding winding on_edge any_of count_of sum_of total parts_of corners_of rings_of polygons_of all_in_range plan_in_range plan_reply plan_half_reply ring_reply holes_reply polygon_reply list_reply tree_reply doubled_edges half_reply
+unfolding answered plan_text after_plan replies asks query_of word_query point_of meaning after_lines grown last_one_more record_of one_field two_fields three_fields split number_of value_of worth decimal digits digits_within orientation on_segment edges_from edges_of all_edges edge_winding winding on_edge any_of count_of sum_of total parts_of corners_of rings_of polygons_of all_in_range plan_in_range plan_reply plan_half_reply ring_reply holes_reply polygon_reply list_reply tree_reply doubled_edges half_reply
 on_half_grid = refl
 
 -- ---- refusals
@@ -94,50 +93,50 @@ too_long input h = long_input input h
 
 -- nothing, and a query before any plan
 no_input : answered [] ≡ refusal n2 n1
-unfolding answered plan_text after_plan replies asks query_of word_query point_of meaning after_lines grown last_one_more record_of one_field two_fields three_fields split same_bytes number_of value_of worth decimal digits digits_within orientation on_segment edges_from edges_of all_edges edge_winding winding on_edge any_of count_of sum_of total parts_of corners_of rings_of polygons_of all_in_range plan_in_range plan_reply plan_half_reply ring_reply holes_reply polygon_reply list_reply tree_reply doubled_edges half_reply
+unfolding answered plan_text after_plan replies asks query_of word_query point_of meaning after_lines grown last_one_more record_of one_field two_fields three_fields split number_of value_of worth decimal digits digits_within orientation on_segment edges_from edges_of all_edges edge_winding winding on_edge any_of count_of sum_of total parts_of corners_of rings_of polygons_of all_in_range plan_in_range plan_reply plan_half_reply ring_reply holes_reply polygon_reply list_reply tree_reply doubled_edges half_reply
 no_input = refl
 
 no_plan : answered (lines (grid_word ⇥ n0 ⇥ n0 ∷ [])) ≡ refusal n2 n1
-unfolding answered plan_text after_plan replies asks query_of word_query point_of meaning after_lines grown last_one_more record_of one_field two_fields three_fields split same_bytes number_of value_of worth decimal digits digits_within orientation on_segment edges_from edges_of all_edges edge_winding winding on_edge any_of count_of sum_of total parts_of corners_of rings_of polygons_of all_in_range plan_in_range plan_reply plan_half_reply ring_reply holes_reply polygon_reply list_reply tree_reply doubled_edges half_reply
+unfolding answered plan_text after_plan replies asks query_of word_query point_of meaning after_lines grown last_one_more record_of one_field two_fields three_fields split number_of value_of worth decimal digits digits_within orientation on_segment edges_from edges_of all_edges edge_winding winding on_edge any_of count_of sum_of total parts_of corners_of rings_of polygons_of all_in_range plan_in_range plan_reply plan_half_reply ring_reply holes_reply polygon_reply list_reply tree_reply doubled_edges half_reply
 no_plan = refl
 
 -- a plan and no query
 pub no_query : answered (lines (plan ∷ [])) ≡ []
-unfolding answered plan_text after_plan replies asks query_of word_query point_of meaning after_lines grown last_one_more record_of one_field two_fields three_fields split same_bytes number_of value_of worth decimal digits digits_within orientation on_segment edges_from edges_of all_edges edge_winding winding on_edge any_of count_of sum_of total parts_of corners_of rings_of polygons_of all_in_range plan_in_range plan_reply plan_half_reply ring_reply holes_reply polygon_reply list_reply tree_reply doubled_edges half_reply
+unfolding answered plan_text after_plan replies asks query_of word_query point_of meaning after_lines grown last_one_more record_of one_field two_fields three_fields split number_of value_of worth decimal digits digits_within orientation on_segment edges_from edges_of all_edges edge_winding winding on_edge any_of count_of sum_of total parts_of corners_of rings_of polygons_of all_in_range plan_in_range plan_reply plan_half_reply ring_reply holes_reply polygon_reply list_reply tree_reply doubled_edges half_reply
 no_query = refl
 
 plan_unended : answered (lines (plan ∷ []) ++ outer) ≡ refusal n2 n2
-unfolding answered plan_text after_plan replies asks query_of word_query point_of meaning after_lines grown last_one_more record_of one_field two_fields three_fields split same_bytes number_of value_of worth decimal digits digits_within orientation on_segment edges_from edges_of all_edges edge_winding winding on_edge any_of count_of sum_of total parts_of corners_of rings_of polygons_of all_in_range plan_in_range plan_reply plan_half_reply ring_reply holes_reply polygon_reply list_reply tree_reply doubled_edges half_reply
+unfolding answered plan_text after_plan replies asks query_of word_query point_of meaning after_lines grown last_one_more record_of one_field two_fields three_fields split number_of value_of worth decimal digits digits_within orientation on_segment edges_from edges_of all_edges edge_winding winding on_edge any_of count_of sum_of total parts_of corners_of rings_of polygons_of all_in_range plan_in_range plan_reply plan_half_reply ring_reply holes_reply polygon_reply list_reply tree_reply doubled_edges half_reply
 plan_unended = refl
 
 -- a reply stands before a refusal, whose line counts from the input's first, and nothing comes after it
 pub stops : answered (lines (plan ∷ grid_word ⇥ n0 ⇥ n0 ∷ grid_word ⇥ n0 ∷ grid_word ⇥ n0 ⇥ n0 ∷ [])) ≡ lines (grid_word ⇥ n0 ⇥ n0 ⇥ outside ∷ []) ++ refusal n2 (51 ∷ [])
-unfolding answered plan_text after_plan replies asks query_of word_query point_of meaning after_lines grown last_one_more record_of one_field two_fields three_fields split same_bytes number_of value_of worth decimal digits digits_within orientation on_segment edges_from edges_of all_edges edge_winding winding on_edge any_of count_of sum_of total parts_of corners_of rings_of polygons_of all_in_range plan_in_range plan_reply plan_half_reply ring_reply holes_reply polygon_reply list_reply tree_reply doubled_edges half_reply
+unfolding answered plan_text after_plan replies asks query_of word_query point_of meaning after_lines grown last_one_more record_of one_field two_fields three_fields split number_of value_of worth decimal digits digits_within orientation on_segment edges_from edges_of all_edges edge_winding winding on_edge any_of count_of sum_of total parts_of corners_of rings_of polygons_of all_in_range plan_in_range plan_reply plan_half_reply ring_reply holes_reply polygon_reply list_reply tree_reply doubled_edges half_reply
 stops = refl
 
 -- a query's word alone ends the plan
 word_alone : answered (lines (plan ∷ half_word ∷ outer ∷ [])) ≡ refusal n2 n2
-unfolding answered plan_text after_plan replies asks query_of word_query point_of meaning after_lines grown last_one_more record_of one_field two_fields three_fields split same_bytes number_of value_of worth decimal digits digits_within orientation on_segment edges_from edges_of all_edges edge_winding winding on_edge any_of count_of sum_of total parts_of corners_of rings_of polygons_of all_in_range plan_in_range plan_reply plan_half_reply ring_reply holes_reply polygon_reply list_reply tree_reply doubled_edges half_reply
+unfolding answered plan_text after_plan replies asks query_of word_query point_of meaning after_lines grown last_one_more record_of one_field two_fields three_fields split number_of value_of worth decimal digits digits_within orientation on_segment edges_from edges_of all_edges edge_winding winding on_edge any_of count_of sum_of total parts_of corners_of rings_of polygons_of all_in_range plan_in_range plan_reply plan_half_reply ring_reply holes_reply polygon_reply list_reply tree_reply doubled_edges half_reply
 word_alone = refl
 
 -- after the first query a line of the plan, a blank one and an unended one
 plan_line : answered (lines (plan ∷ grid_word ⇥ n0 ⇥ n0 ∷ outer ∷ [])) ≡ lines (grid_word ⇥ n0 ⇥ n0 ⇥ outside ∷ []) ++ refusal n2 (51 ∷ [])
-unfolding answered plan_text after_plan replies asks query_of word_query point_of meaning after_lines grown last_one_more record_of one_field two_fields three_fields split same_bytes number_of value_of worth decimal digits digits_within orientation on_segment edges_from edges_of all_edges edge_winding winding on_edge any_of count_of sum_of total parts_of corners_of rings_of polygons_of all_in_range plan_in_range plan_reply plan_half_reply ring_reply holes_reply polygon_reply list_reply tree_reply doubled_edges half_reply
+unfolding answered plan_text after_plan replies asks query_of word_query point_of meaning after_lines grown last_one_more record_of one_field two_fields three_fields split number_of value_of worth decimal digits digits_within orientation on_segment edges_from edges_of all_edges edge_winding winding on_edge any_of count_of sum_of total parts_of corners_of rings_of polygons_of all_in_range plan_in_range plan_reply plan_half_reply ring_reply holes_reply polygon_reply list_reply tree_reply doubled_edges half_reply
 plan_line = refl
 
 blank_line : answered (lines (plan ∷ grid_word ⇥ n0 ⇥ n0 ∷ [] ∷ [])) ≡ lines (grid_word ⇥ n0 ⇥ n0 ⇥ outside ∷ []) ++ refusal n2 (51 ∷ [])
-unfolding answered plan_text after_plan replies asks query_of word_query point_of meaning after_lines grown last_one_more record_of one_field two_fields three_fields split same_bytes number_of value_of worth decimal digits digits_within orientation on_segment edges_from edges_of all_edges edge_winding winding on_edge any_of count_of sum_of total parts_of corners_of rings_of polygons_of all_in_range plan_in_range plan_reply plan_half_reply ring_reply holes_reply polygon_reply list_reply tree_reply doubled_edges half_reply
+unfolding answered plan_text after_plan replies asks query_of word_query point_of meaning after_lines grown last_one_more record_of one_field two_fields three_fields split number_of value_of worth decimal digits digits_within orientation on_segment edges_from edges_of all_edges edge_winding winding on_edge any_of count_of sum_of total parts_of corners_of rings_of polygons_of all_in_range plan_in_range plan_reply plan_half_reply ring_reply holes_reply polygon_reply list_reply tree_reply doubled_edges half_reply
 blank_line = refl
 
 query_unended : answered (lines (plan ∷ grid_word ⇥ n0 ⇥ n0 ∷ []) ++ grid_word ⇥ n0 ⇥ n0) ≡ lines (grid_word ⇥ n0 ⇥ n0 ⇥ outside ∷ []) ++ refusal n2 (51 ∷ [])
-unfolding answered plan_text after_plan replies asks query_of word_query point_of meaning after_lines grown last_one_more record_of one_field two_fields three_fields split same_bytes number_of value_of worth decimal digits digits_within orientation on_segment edges_from edges_of all_edges edge_winding winding on_edge any_of count_of sum_of total parts_of corners_of rings_of polygons_of all_in_range plan_in_range plan_reply plan_half_reply ring_reply holes_reply polygon_reply list_reply tree_reply doubled_edges half_reply
+unfolding answered plan_text after_plan replies asks query_of word_query point_of meaning after_lines grown last_one_more record_of one_field two_fields three_fields split number_of value_of worth decimal digits digits_within orientation on_segment edges_from edges_of all_edges edge_winding winding on_edge any_of count_of sum_of total parts_of corners_of rings_of polygons_of all_in_range plan_in_range plan_reply plan_half_reply ring_reply holes_reply polygon_reply list_reply tree_reply doubled_edges half_reply
 query_unended = refl
 
 -- 11 for 257 rings, with no line, and before it 2 for a line of the plan
 pub too_many_lem : answered (lines (plan ∷ replicate 257 outer)) ≡ refusal (49 ∷ 49 ∷ []) n0
-unfolding answered plan_text after_plan replies asks query_of word_query point_of meaning after_lines grown last_one_more record_of one_field two_fields three_fields split same_bytes number_of value_of worth decimal digits digits_within orientation on_segment edges_from edges_of all_edges edge_winding winding on_edge any_of count_of sum_of total parts_of corners_of rings_of polygons_of all_in_range plan_in_range plan_reply plan_half_reply ring_reply holes_reply polygon_reply list_reply tree_reply doubled_edges half_reply
+unfolding answered plan_text after_plan replies asks query_of word_query point_of meaning after_lines grown last_one_more record_of one_field two_fields three_fields split number_of value_of worth decimal digits digits_within orientation on_segment edges_from edges_of all_edges edge_winding winding on_edge any_of count_of sum_of total parts_of corners_of rings_of polygons_of all_in_range plan_in_range plan_reply plan_half_reply ring_reply holes_reply polygon_reply list_reply tree_reply doubled_edges half_reply
 too_many_lem = refl
 
 pub two_first : answered (lines (plan ∷ replicate 257 outer) ++ lines (list ∷ [])) ≡ refusal n2 (50 ∷ 53 ∷ 57 ∷ [])
-unfolding answered plan_text after_plan replies asks query_of word_query point_of meaning after_lines grown last_one_more record_of one_field two_fields three_fields split same_bytes number_of value_of worth decimal digits digits_within orientation on_segment edges_from edges_of all_edges edge_winding winding on_edge any_of count_of sum_of total parts_of corners_of rings_of polygons_of all_in_range plan_in_range plan_reply plan_half_reply ring_reply holes_reply polygon_reply list_reply tree_reply doubled_edges half_reply
+unfolding answered plan_text after_plan replies asks query_of word_query point_of meaning after_lines grown last_one_more record_of one_field two_fields three_fields split number_of value_of worth decimal digits digits_within orientation on_segment edges_from edges_of all_edges edge_winding winding on_edge any_of count_of sum_of total parts_of corners_of rings_of polygons_of all_in_range plan_in_range plan_reply plan_half_reply ring_reply holes_reply polygon_reply list_reply tree_reply doubled_edges half_reply
 two_first = refl

@@ -1,16 +1,15 @@
 -- The whole output for a whole input (document 01, "Trays to try"; `findspot`: 16,384 bytes of input, 512 corners, 256 rings).
-use Rattle.std.specs.Prelude.{◌≡◌, Bool, false, cond, ◌||◌, List, [], ◌∷◌, ◌++◌, ℕ, suc, ◌+◌, ◌≤◌, ltb, ℤ, length, take, drop}
+use Rattle.std.specs.Prelude.{◌≡◌, Bool, false, cond, ◌||◌, List, [], ◌∷◌, ◌++◌, ℕ, suc, ◌+◌, ◌≤◌, ltb, ℤ, length, take, drop, Result, Ok, Err}
 use Rattle.fields.specs.Pieces.{split}
 use Rattle.fields.specs.Written.{overwritten}
-use Rattle.rules.specs.declared.Verdict.TheVariants.{Accepted}
 use Rattle.rules.specs.Plans.{Plan, corner_count, plan_verdict}
 use Rattle.lines.specs.Plans.{Meaning, start_meaning, gives_meaning, broken_meaning, meaning}
-use Rattle.answers.specs.declared.Outcome.{Outcome}
-use Rattle.answers.specs.declared.Outcome.TheVariants.{Written, OutputTooShort}
+use Rattle.answers.specs.declared.OutputTooShort.{OutputTooShort}
 use Rattle.answers.specs.declared.parts.Place.{Place}
 use Rattle.asked.specs.Queries.{asks}
 use Rattle.answers.specs.Replies.{refusal_line, replies}
 use Rattle.answers.specs.Words.{line_end}
+use Rattle.rules.specs.Answering.{Accepted}
 
 -- ---- the plan's lines and the others
 
@@ -59,19 +58,26 @@ Tables corners lengths counts = (length corners ≡ 1024) × (length lengths ≡
 
 -- ---- the call
 
+-- how many bytes were written, or 11
+abbrev pub Outcome : Type 0
+Outcome = Result ℕ OutputTooShort
+
+abbrev pub too_short : Outcome
+too_short = Err (record {})
+
 -- 0 where the answer was written, or 11
 abbrev pub outcome_number : Outcome → ℕ
-outcome_number (Written count) = 0
-outcome_number OutputTooShort = 11
+outcome_number (Ok count) = 0
+outcome_number (Err short) = 11
 
 -- 11 where the output is shorter than the answer, and only there
 abbrev pub outcome_of : List ℕ → ℕ → Outcome
-outcome_of input room = cond (ltb room (length (answered input))) OutputTooShort (Written (length (answered input)))
+outcome_of input room = cond (ltb room (length (answered input))) too_short (Ok (length (answered input)))
 
 -- the output starts with the answer and is otherwise as it was
 abbrev pub output_after : Outcome → List ℕ → List ℕ → List ℕ
-output_after (Written count) bytes output = overwritten 0 bytes output
-output_after OutputTooShort bytes output = output
+output_after (Ok count) bytes output = overwritten 0 bytes output
+output_after (Err short) bytes output = output
 
 -- what `answer` promises: what it returns, its number by the same condition, the output whole, and that no answer is longer than 33,000 bytes
 pub record Answered (input output output' : List ℕ) (r : Outcome) : Type 0 where

@@ -1,5 +1,5 @@
 -- What is written for the lines after the plan (document 01, "Trays to try").
-use Rattle.std.specs.Prelude.{◌≡◌, true, false, List, [], ◌∷◌, ◌++◌, ℕ, suc, ◌+◌, ◌≤◌, ℤ, length, drop}
+use Rattle.std.specs.Prelude.{◌≡◌, true, false, List, [], ◌∷◌, ◌++◌, ℕ, suc, ◌+◌, ◌≤◌, ℤ, length, drop, Option, Some, None}
 use Rattle.fields.specs.Decimals.{digits}
 use Rattle.fields.specs.Pieces.{split}
 use Rattle.rules.specs.declared.Kind.{Kind}
@@ -8,13 +8,11 @@ use Rattle.rules.specs.declared.Location.TheVariants.{Outside, Inside, OnBoundar
 use Rattle.rules.specs.declared.Refusal.{Refusal}
 use Rattle.rules.specs.declared.Refusal.TheVariants.{TextTooLong, BadLine, Uneven, TooMany, NoSuchCorner, PlaceOutOfRange, TableTooShort, PlanOutOfRange, UndoFull, NothingToUndo, Unsound, OffGrammar, Unclosed}
 use Rattle.rules.specs.declared.State.{State}
-use Rattle.rules.specs.Plans.{Plan, plan_in_range, plan_reply, plan_half_reply}
+use Rattle.rules.specs.Plans.{Plan, plan_in_range}
 use Rattle.rules.specs.Tables.{plan_of}
 use Rattle.gather.specs.Regions.{LookSound}
-use Rattle.asked.specs.declared.Query.{Query}
-use Rattle.asked.specs.declared.Query.TheVariants.{OnGrid, Doubled}
-use Rattle.asked.specs.declared.Line.{Line}
-use Rattle.asked.specs.declared.Line.TheVariants.{Asks, Malformed}
+use Rattle.rules.specs.declared.Spot.{Spot}
+use Rattle.rules.specs.Spots.{spot_reply}
 use Rattle.asked.specs.Queries.{query_of}
 use Rattle.answers.specs.Words.{inside, outside, boundary, refused, tab, line_end}
 
@@ -26,9 +24,8 @@ place_word Inside = inside
 place_word OnBoundary = boundary
 
 -- the word that a query gets: the reply on the grid (items 3, 4 and 6), or on the half-grid (item 7)
-abbrev pub reply_word : Plan → Query → List ℕ
-reply_word plan (OnGrid p) = place_word (plan_reply plan p)
-reply_word plan (Doubled p) = place_word (plan_half_reply plan p)
+abbrev pub reply_word : Plan → Spot → List ℕ
+reply_word plan spot = place_word (spot_reply plan spot)
 
 -- "Each output line repeats the input fields and adds" the word
 abbrev pub reply_line : List ℕ → List ℕ → List ℕ
@@ -61,9 +58,9 @@ line_named Unclosed = 0
 -- ---- line by line
 
 -- line k, ended, which says this, and what is written for the lines after it; a refusal stops
-abbrev pub answer_line : Plan → ℕ → List ℕ → Line → List ℕ → List ℕ
-answer_line plan k line (Asks query) rest = reply_line line (reply_word plan query) ++ rest
-answer_line plan k line Malformed rest = refusal_line 2 k
+abbrev pub answer_line : Plan → ℕ → List ℕ → Option Spot → List ℕ → List ℕ
+answer_line plan k line (Some query) rest = reply_line line (reply_word plan query) ++ rest
+answer_line plan k line None rest = refusal_line 2 k
 
 -- what stands after the last line end: nothing, or an unended line k
 abbrev pub answer_end : ℕ → List ℕ → List ℕ

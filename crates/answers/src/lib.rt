@@ -13,10 +13,10 @@ mod replies;
 
 use fields::write::put;
 use parts::first_query;
-use prepare::{Preparing, prepare};
+use prepare::prepare;
 use replies::{line_named, put_refusal, put_replies};
 use rules::{Kind, refusal_number};
-use text::{Reading, read_plan};
+use text::read_plan;
 
 /// The most bytes that an input may have.
 pub const MAX_INPUT: usize = 16384;
@@ -24,14 +24,9 @@ pub const MAX_INPUT: usize = 16384;
 // Room for any answer: none has more than 33,000 bytes.
 const ANSWER_ROOM: usize = 65536;
 
-/// What answering an input comes to.
-#[derive(Clone, Copy)]
-pub enum Outcome {
-    /// The answer is in the output, and this is how many bytes it has.
-    Written(usize),
-    /// 11: the output has fewer bytes than the answer. Nothing was written.
-    OutputTooShort,
-}
+/// 11: the output has fewer bytes than the answer. Nothing was written.
+#[derive(Clone, Copy, PartialEq, Eq, Debug)]
+pub struct OutputTooShort;
 
 // What is written for the lines of an input from a line on, whose number is given. The plan, which is within the ceilings, is prepared once
 // (512 corners have at most N(512) = 127 nodes); then each line is looked up in its tables.
@@ -66,12 +61,21 @@ fn answer_lines(
         &mut parts,
         &mut edges,
     ) {
-        Preparing::Ready(state, _) => put_replies(
-            state, &corners, &rings, &polygons, &boxes, &parts, &edges, input, first, number,
+        Ok(ready) => put_replies(
+            ready.state,
+            &corners,
+            &rings,
+            &polygons,
+            &boxes,
+            &parts,
+            &edges,
+            input,
+            first,
+            number,
             output,
         ),
         // No accepted plan within the ceilings comes to this.
-        Preparing::Refused(_) => 0,
+        Err(_) => 0,
     }
 }
 
@@ -90,7 +94,7 @@ fn answer_in(
     let from = place.from;
     let line = place.line;
     match read_plan(&input[..from], corners, lengths, counts) {
-        Reading::Read(size) => {
+        Ok(size) => {
             let kind = size.kind;
             let n = 2 * size.corners;
             let r = size.rings;
@@ -106,9 +110,7 @@ fn answer_in(
                 output,
             )
         }
-        Reading::Refused(refusal) => {
-            put_refusal(output, 0, refusal_number(refusal), line_named(refusal))
-        }
+        Err(refusal) => { put_refusal(output, 0, refusal_number(refusal), line_named(refusal)) }
     }
 }
 
@@ -126,22 +128,22 @@ fn answer_whole(input: &[u8], output: &mut [u8]) -> usize
     answer_in(input, &mut corners, &mut lengths, &mut counts, output)
 }
 
-/// Writes what `findspot` answers to an input at the output's start; the rest of the output stays as it was.
+/// Writes what `findspot` answers to an input at the output's start, and gives how many bytes that is; the rest of the output stays as it was.
 ///
 /// The lines before the first one whose first field is `coin` or `half` are the plan. It is judged first; then each later line is replied to
 /// in turn: its own bytes, a tab, and `inside`, `outside` or `boundary`. A refusal writes `refused`, its number and the line (0 where none),
 /// and nothing after it: 1 for an input of more than 16,384 bytes, 2 for the first line that breaks the format, 11 for a plan of more than
-/// 512 corners or 256 rings. All of these are `Written`. It takes up to 720 KiB of stack, most of it for look-ups that meet more than 128 rings.
+/// 512 corners or 256 rings. All of these are written. It takes up to 720 KiB of stack, most of it for look-ups that meet more than 128 rings.
 ///
 /// Refused with 11 (`OutputTooShort`), with nothing written, where the output has fewer bytes than the answer; no answer has more than 33,000.
-pub fn answer(input: &[u8], output: &mut [u8]) -> Outcome
+pub fn answer(input: &[u8], output: &mut [u8]) -> Result<usize, OutputTooShort>
     ensures { Answered input.now output.old output.new result }
 {
     let mut whole = [0u8; ANSWER_ROOM];
     let count = answer_whole(input, &mut whole);
     if output.len() < count {
-        return Outcome::OutputTooShort;
+        return Err(OutputTooShort);
     }
     put(output, 0, &whole[..count]);
-    Outcome::Written(count)
+    Ok(count)
 }

@@ -3,11 +3,11 @@ ghost use Rattle.std.specs.Prelude.{◌≤◌, length};
 ghost use Rattle.answers.specs.Answers.{FirstQuery};
 
 use asked::asks;
-use fields::find;
+use fields::split_once;
 
 /// Where a line starts, and its number.
 #[derive(Clone, Copy)]
-pub struct Place {
+pub(crate) struct Place {
     pub from: usize,
     pub line: usize,
 }
@@ -17,29 +17,22 @@ pub(crate) fn first_query(input: &[u8]) -> Place
     requires { length input.now ≤ 16384 }
     ensures { FirstQuery input.now result }
 {
-    let mut line = 1;
-    let mut from = 0;
-    let mut end = find(input, b'\n', from);
-    while end < input.len() {
-        if asks(&input[from..end]) {
-            return Place {
-                from: from,
-                line: line,
-            };
+    let mut place = Place { from: 0, line: 1 };
+    let mut rest = input;
+    while let Some((row, after)) = split_once(rest, b'\n') {
+        if asks(row) {
+            return place;
         }
-        line += 1;
-        from = end + 1;
-        end = find(input, b'\n', from);
+        place.from += row.len() + 1;
+        place.line += 1;
+        rest = after;
     }
     // What stands after the last line end is a line where it asks, though an unended one.
-    if asks(&input[from..end]) {
-        return Place {
-            from: from,
-            line: line,
-        };
+    if asks(rest) {
+        return place;
     }
     Place {
-        from: end,
-        line: line,
+        from: input.len(),
+        ..place
     }
 }

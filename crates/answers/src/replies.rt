@@ -2,19 +2,18 @@
 ghost use Rattle.std.specs.Prelude.{◌≡◌, ◌+◌, ◌≤◌, length, drop};
 ghost use Rattle.fields.specs.Pieces.{split};
 ghost use Rattle.fields.specs.Written.{Wrote};
-ghost use Rattle.rules.specs.Plans.{plan_reply, plan_half_reply};
+ghost use Rattle.rules.specs.Spots.{spot_reply};
 ghost use Rattle.rules.specs.Tables.{plan_of};
 ghost use Rattle.answers.specs.Replies.{place_word, reply_word, reply_line, number_field, refusal_line, line_named, replies, PreparedTables, Due};
 
-use asked::{Line, Query, read_query};
-use fields::find;
+use asked::read_query;
+use fields::split_once;
 use fields::write::{put, put_digits};
-use geom::Point;
-use prepared::locate::{locate, locate_doubled};
-use rules::{Location, Refusal, Reply, State};
+use prepared::locate::locate;
+use rules::{Location, Refusal, Spot, State};
 
-// Where a point of the grid lies in a prepared plan.
-fn reply_at(
+// Where a spot lies in a prepared plan.
+fn place_at(
     state: State,
     corners: &[i64],
     rings: &[usize],
@@ -22,36 +21,15 @@ fn reply_at(
     boxes: &[[i64; 4]],
     parts: &[[usize; 3]],
     edges: &[usize],
-    p: Point,
+    spot: Spot,
 ) -> Location
     requires { PreparedTables state corners.now rings.now polygons.now boxes.now parts.now edges.now }
-    ensures { result ≡ plan_reply (plan_of state corners.now rings.now polygons.now) p }
+    ensures { result ≡ spot_reply (plan_of state corners.now rings.now polygons.now) spot }
 {
-    match locate(state, corners, rings, polygons, boxes, parts, edges, p) {
-        Reply::At(location) => location,
+    match locate(state, corners, rings, polygons, boxes, parts, edges, spot) {
+        Ok(location) => location,
         // No prepared plan's tables come to this.
-        Reply::Refused(_) => Location::Outside,
-    }
-}
-
-// Where a point of the half-grid, named by its double, lies in a prepared plan.
-fn half_reply_at(
-    state: State,
-    corners: &[i64],
-    rings: &[usize],
-    polygons: &[usize],
-    boxes: &[[i64; 4]],
-    parts: &[[usize; 3]],
-    edges: &[usize],
-    p: Point,
-) -> Location
-    requires { PreparedTables state corners.now rings.now polygons.now boxes.now parts.now edges.now }
-    ensures { result ≡ plan_half_reply (plan_of state corners.now rings.now polygons.now) p }
-{
-    match locate_doubled(state, corners, rings, polygons, boxes, parts, edges, p) {
-        Reply::At(location) => location,
-        // No prepared plan's tables come to this.
-        Reply::Refused(_) => Location::Outside,
+        Err(_) => Location::Outside,
     }
 }
 
@@ -67,36 +45,6 @@ fn put_place(output: &mut [u8], at: usize, location: Location) -> usize
     }
 }
 
-// The word that a query gets.
-fn put_word(
-    state: State,
-    corners: &[i64],
-    rings: &[usize],
-    polygons: &[usize],
-    boxes: &[[i64; 4]],
-    parts: &[[usize; 3]],
-    edges: &[usize],
-    query: Query,
-    output: &mut [u8],
-    at: usize,
-) -> usize
-    requires { PreparedTables state corners.now rings.now polygons.now boxes.now parts.now edges.now × (at + length (reply_word (plan_of state corners.now rings.now polygons.now) query) ≤ length output.old) }
-    ensures { Wrote at (reply_word (plan_of state corners.now rings.now polygons.now) query) output.old output.new result }
-{
-    match query {
-        Query::OnGrid(p) => put_place(
-            output,
-            at,
-            reply_at(state, corners, rings, polygons, boxes, parts, edges, p),
-        ),
-        Query::Doubled(p) => put_place(
-            output,
-            at,
-            half_reply_at(state, corners, rings, polygons, boxes, parts, edges, p),
-        ),
-    }
-}
-
 // The line of a reply: the query's line as it stands, and the word.
 fn put_reply(
     state: State,
@@ -107,18 +55,17 @@ fn put_reply(
     parts: &[[usize; 3]],
     edges: &[usize],
     line: &[u8],
-    query: Query,
+    spot: Spot,
     output: &mut [u8],
     at: usize,
 ) -> usize
-    requires { PreparedTables state corners.now rings.now polygons.now boxes.now parts.now edges.now × (at + length (reply_line line.now (reply_word (plan_of state corners.now rings.now polygons.now) query)) ≤ length output.old) }
-    ensures { Wrote at (reply_line line.now (reply_word (plan_of state corners.now rings.now polygons.now) query)) output.old output.new result }
+    requires { PreparedTables state corners.now rings.now polygons.now boxes.now parts.now edges.now × (at + length (reply_line line.now (reply_word (plan_of state corners.now rings.now polygons.now) spot)) ≤ length output.old) }
+    ensures { Wrote at (reply_line line.now (reply_word (plan_of state corners.now rings.now polygons.now) spot)) output.old output.new result }
 {
     let repeated = put(output, at, line);
     let parted = put(output, repeated, b"\t");
-    let replied = put_word(
-        state, corners, rings, polygons, boxes, parts, edges, query, output, parted,
-    );
+    let place = place_at(state, corners, rings, polygons, boxes, parts, edges, spot);
+    let replied = put_place(output, parted, place);
     put(output, replied, b"\n")
 }
 
@@ -147,19 +94,8 @@ pub(crate) fn line_named(refusal: Refusal) -> usize
     ensures { result ≡ line_named refusal }
 {
     match refusal {
-        Refusal::TextTooLong => 0,
         Refusal::BadLine(line) => line,
-        Refusal::Uneven => 0,
-        Refusal::TooMany => 0,
-        Refusal::NoSuchCorner => 0,
-        Refusal::PlaceOutOfRange => 0,
-        Refusal::TableTooShort(_) => 0,
-        Refusal::PlanOutOfRange => 0,
-        Refusal::UndoFull => 0,
-        Refusal::NothingToUndo => 0,
-        Refusal::Unsound => 0,
-        Refusal::OffGrammar(_) => 0,
-        Refusal::Unclosed => 0,
+        _ => 0,
     }
 }
 
@@ -183,21 +119,18 @@ pub(crate) fn put_replies(
 {
     let mut at = 0;
     let mut line = number;
-    let mut from = first;
-    let mut end = find(input, b'\n', from);
-    while end < input.len() {
-        let row = &input[from..end];
-        let Line::Asks(query) = read_query(row) else {
+    let mut rest = &input[first..];
+    while let Some((row, after)) = split_once(rest, b'\n') {
+        let Some(query) = read_query(row) else {
             return put_refusal(output, at, 2, line);
         };
         at = put_reply(
             state, corners, rings, polygons, boxes, parts, edges, row, query, output, at,
         );
         line += 1;
-        from = end + 1;
-        end = find(input, b'\n', from);
+        rest = after;
     }
-    if from < end {
+    if !rest.is_empty() {
         return put_refusal(output, at, 2, line);
     }
     at

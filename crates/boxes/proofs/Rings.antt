@@ -2,11 +2,10 @@
 use mathlib.Core.Path.{◌≡◌, refl, sym, ap, ◌∙◌}
 use mathlib.Core.Bool.{cond, true}
 use mathlib.Core.List.{List, [], ◌∷◌}
-use Prim.Native.Nat.{ℕ, zero, suc, ◌+◌, ◌-◌, ◌*◌, ◌/◌, ◌≤◌, ◌<◌}
+use Prim.Native.Nat.{ℕ, zero, suc, ◌+◌, ◌-◌, ◌≤◌, ◌<◌}
 use native.Mathlib.Numerals.{add-one}
 use native.Mathlib.Decide.{ℕ_discrete, dec_lt}
 use native.Mathlib.Omega.{arith}
-use native.Mathlib.Nat.{mul-le-mul, mul_comm, add-mul, div-add-mod'}
 use borrow.Author.Tests.{lt-ltb, le-ltb, leb-true, ltb-true}
 use lib.Dec.{leb, ltb}
 use lib.ListN.{length, get_or}
@@ -35,19 +34,6 @@ pub in_ring_lem : (rings : List ℕ) (count e r : ℕ) → r < count → in_ring
 in_ring_lem rings count e r h t =
     let both = and_true (leb (start_of rings r) e) (ltb e (get_or rings r 0)) t in
     record { ring = h; from = leb-true (start_of rings r) e both.0; to = ltb-true e (get_or rings r 0) both.1 }
-
--- a share of the rings by e's share of the corners
-pub share_below : (e count n : ℕ) → e < n → 0 < count → e * count / n < count
-share_below e count n h some = go (dec_lt (e * count / n) count)
-  where
-    go : Dec (e * count / n < count) → e * count / n < count
-    go (yes l) = l
-    go (no m) = absurd (
-        let whole = div-add-mod' (e * count) n in
-        let reach : count * n ≤ e * count / n * n = mul-le-mul {n₂ = e * count / n} {m₂ = n} (omega arith) (omega arith) in
-        let less : (e + 1) * count ≤ n * count = mul-le-mul {n₂ = n} {m₂ = count} (omega arith) (omega arith) in
-        omega (arith, whole, reach, less, add-mul e 1 count, mul_comm count n)
-        )
 
 -- in a ring: the corner after e, by e's place
 pub next_within : (start end e : ℕ) → e + 1 < end → next_in start end e ≡ e + 1

@@ -32,10 +32,7 @@ pub fn start_of(rings: &[usize], r: usize) -> usize
     requires { r ≤ length rings.now }
     ensures { result ≡ start_of rings.now r }
 {
-    if r == 0 {
-        return 0;
-    }
-    rings[r - 1]
+    if r == 0 { 0 } else { rings[r - 1] }
 }
 
 // Whether corner e is in ring r.
@@ -52,13 +49,11 @@ fn ring_if_even(rings: &[usize], count: usize, e: usize) -> usize
     ensures { result < count }
 {
     let n = rings[count - 1];
-    if 4294967296 < n {
-        return 0;
+    if n <= 1 << 32 && count < 1 << 32 {
+        e * count / n
+    } else {
+        0
     }
-    if 4294967296 <= count {
-        return 0;
-    }
-    e * count / n
 }
 
 /// The ring of corner e, where ring `last` is tried first, since edges that stand together are mostly of one ring, and then the one that
@@ -83,9 +78,10 @@ pub fn next_corner(rings: &[usize], r: usize, e: usize) -> usize
     ensures { result ≡ next_in (start_of rings.now r) (get_or rings.now r 0) e }
 {
     if e + 1 < rings[r] {
-        return e + 1;
+        e + 1
+    } else {
+        start_of(rings, r)
     }
-    start_of(rings, r)
 }
 
 /// The smallest box round edge e of ring r.
@@ -125,15 +121,13 @@ pub fn part_box(
     if size == 0 {
         return Rect::empty();
     }
-    let edge = edges[first];
-    let mut ring = ring_near(rings, count, edge, 0);
-    let mut b = edge_box(corners, rings, n, count, ring, edge);
-    let mut k: usize = 1;
-    while k < size {
+    let e = edges[first];
+    let mut ring = ring_near(rings, count, e, 0);
+    let mut b = edge_box(corners, rings, n, count, ring, e);
+    for k in 1..size {
         let e = edges[first + k];
         ring = ring_near(rings, count, e, ring);
         b = b.union(edge_box(corners, rings, n, count, ring, e));
-        k += 1;
     }
     b
 }
@@ -143,13 +137,10 @@ pub fn rect_at(boxes: &[[i64; 4]], p: usize) -> Rect
     requires { p < length boxes.now }
     ensures { result ≡ rect_at boxes.now p }
 {
-    let a = boxes[p][0];
-    let b = boxes[p][1];
-    let c = boxes[p][2];
-    let d = boxes[p][3];
+    let [left, low, right, high] = boxes[p];
     Rect {
-        min: Point { x: a, y: b },
-        max: Point { x: c, y: d },
+        min: Point { x: left, y: low },
+        max: Point { x: right, y: high },
     }
 }
 
@@ -158,9 +149,5 @@ pub fn put_rect(boxes: &mut [[i64; 4]], p: usize, r: Rect)
     requires { p < length boxes.old }
     ensures { boxes.new ≡ set boxes.old p (row_of r) }
 {
-    let a = r.min.x;
-    let b = r.min.y;
-    let c = r.max.x;
-    let d = r.max.y;
-    boxes[p] = [a, b, c, d];
+    boxes[p] = [r.min.x, r.min.y, r.max.x, r.max.y];
 }

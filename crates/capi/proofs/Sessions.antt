@@ -1,4 +1,5 @@
 -- Demand 3 of a server that calls nothing but exports: its calls are a run of the model. Assumes nothing.
+use Rattle.std.specs.Prelude.{Err, None, Ok, Option, Some}
 use mathlib.Core.Path.{◌≡◌, refl, sym, ap, ◌∙◌, subst}
 use mathlib.Core.Bool.{Bool, true, false}
 use mathlib.Core.Logic.{inl, ⊎_elim}
@@ -15,31 +16,24 @@ use Rattle.rules.specs.declared.Location.{Location}
 use Rattle.rules.specs.declared.Location.TheVariants.{Outside}
 use Rattle.rules.specs.declared.Refusal.{Refusal}
 use Rattle.rules.specs.declared.Refusal.TheVariants.{TextTooLong, BadLine, Uneven, TooMany, NoSuchCorner, PlaceOutOfRange, TableTooShort, PlanOutOfRange, UndoFull, NothingToUndo, Unsound, OffGrammar, Unclosed}
-use Rattle.rules.specs.declared.Reply.{Reply}
-use Rattle.rules.specs.declared.Reply as Reply
 use Rattle.rules.specs.declared.State.{State}
 use Rattle.rules.specs.Numbers.{refusal_number, reply_number}
 use Rattle.rules.specs.Plans.{Plan, plan_reply, plan_half_reply}
 use Rattle.rules.specs.Tables.{plan_of}
-use Rattle.prepare.specs.declared.Preparing.{Preparing}
-use Rattle.prepare.specs.declared.Preparing as Preparing
-use Rattle.prepare.specs.declared.Preparing.TheVariants.{Ready}
 use Rattle.prepare.specs.Tables as PreparingTables
 use Rattle.prepare.specs.Tables.{Tables}
 use Rattle.prepare.proofs.Readiness.{unmarked_near}
 use Rattle.query.specs.Calls.{LookedUp}
 use Rattle.outlines.proofs.Steps.{at_refused}
 use Rattle.prepared.specs.Calls.{Looked}
-use Rattle.corrections.specs.declared.Corrected.{Corrected}
+use Rattle.corrections.specs.Corrected.{Corrected, answered, state_after}
 use Rattle.model.specs.declared.Answer.{Answer}
 use Rattle.model.specs.declared.Call.{Call}
 use Rattle.model.specs.declared.Call.TheVariants.{Move, Undo, Locate, LocateDoubled}
 use Rattle.model.specs.Demand.{Turn, Run, end_of, marked_answer}
 use Rattle.model.specs.Numbers.{answer_of, answer_number}
-use Rattle.model.specs.declared.Early.{Early}
-use Rattle.model.specs.declared.Early.TheVariants.{Open, Settled}
 use Rattle.model.specs.Prepared.{Prepared, prepared_of, plan_held, Sound}
-use Rattle.model.specs.Steps.{early, Does, is_look_up, Step}
+use Rattle.model.specs.Steps.{early, Does, is_look_up, Step, Early, Open, Settled}
 use Rattle.model.proofs.Ways as Ways
 use Rattle.model.proofs.Ways.{true_false, settled_open, sound_reaches, locate_step, locate_doubled_step}
 use Rattle.model.proofs.Marked.{early_marked, marked}
@@ -48,15 +42,14 @@ use Rattle.replay.proofs.Ending.{followed}
 use Rattle.replay.proofs.LookUps.{locate_is_step, locate_doubled_is_step}
 use Rattle.replay.proofs.Starting.{fresh, first_held, first_size}
 use Rattle.states.specs.declared.StateNumbers.{StateNumbers}
-use Rattle.states.specs.declared.NamedKind.{NamedKind}
-use Rattle.states.specs.declared.NamedKind as NamedKind
-use Rattle.states.specs.declared.NamedState.{NamedState}
 use Rattle.states.specs.States.{kind_named, mark_number, state_named, state_numbers, Replied}
 use Rattle.capi.specs.declared.exports.PrepareAnswer.{PrepareAnswer}
 use Rattle.capi.specs.declared.moves.CorrectionAnswer.{CorrectionAnswer}
 use Rattle.capi.specs.Exports.{PrepareSays, prepare_numbers, correction_numbers, CorrectionSays, Written}
 use Rattle.capi.specs.Sessions.{Kept, kept_of, CorrectionCalled, LookUpCalled, ExportCalled, Request, requested, Session, session_end, export_number, export_numbers, Served, ServerDemand, ServerMarked}
 use Rattle.capi.proofs.Namings.{state_returns}
+use Rattle.rules.specs.Answering.{Reply}
+use Rattle.prepare.specs.Answers.{Preparing, ready_with}
 
 -- tables as a session meets them: sound unless the plan is marked, whose tables nobody reads
 abbrev Fit : Prepared → Type 0
@@ -73,28 +66,28 @@ record Stepped (call : Call) (d : Prepared) (number : ℤ) (k' : Kept) : Type 0 
 
 -- a move or an undo
 module _ (call : Call) (d : Prepared) (number : ℤ) (k' : Kept) (C : CorrectionCalled call (kept_of d) number k') (numbered : (a : Answer) → export_number call a ≡ export_number Undo a) where
-  abbrev leaving : Corrected → List ℕ → Prepared
-  leaving corrected polygons = prepared_of corrected.state k'.corners d.rings polygons k'.boxes d.parts d.edges k'.undo
+  abbrev leaving : State → Corrected → List ℕ → Prepared
+  leaving s corrected polygons = prepared_of (state_after s corrected) k'.corners d.rings polygons k'.boxes d.parts d.edges k'.undo
 
   abbrev Promised : State → Corrected → Type 0
-  Promised s corrected = (polygons : List ℕ) → Step call (prepared_of s d.corners d.rings polygons d.boxes d.parts d.edges d.undo) corrected.answer (leaving corrected polygons)
+  Promised s corrected = (polygons : List ℕ) → Step call (prepared_of s d.corners d.rings polygons d.boxes d.parts d.edges d.undo) (answered corrected) (leaving s corrected polygons)
 
   abbrev Same : Type 0
   Same = ◌≡◌ {A = Written} (record { corners = k'.corners; boxes = k'.boxes; undo = k'.undo }) (record { corners = d.corners; boxes = d.boxes; undo = d.undo })
 
   -- the state's own numbers name it
-  named : (corrected : Corrected) × Promised d.state corrected × (C.answer ≡ correction_numbers corrected)
-  named = subst (λ (n : NamedState). CorrectionSays n Promised Same (state_numbers d.state) C.answer) (state_returns d.state) C.promised
+  named : (corrected : Corrected) × Promised d.state corrected × (C.answer ≡ correction_numbers d.state corrected)
+  named = subst (λ (n : Option State). CorrectionSays n Promised Same (state_numbers d.state) C.answer) (state_returns d.state) C.promised
 
   corrected_step : Stepped call d number k'
   corrected_step =
       let corrected = named.0 in
       let is = named.2 in
       record {
-        answer = corrected.answer;
-        left = leaving corrected d.polygons;
+        answer = answered corrected;
+        left = leaving d.state corrected d.polygons;
         step = named.1 d.polygons;
-        number_is = C.number_is ∙ ap (λ (q : CorrectionAnswer). pos q.refusal) is ∙ sym (numbered corrected.answer);
+        number_is = C.number_is ∙ ap (λ (q : CorrectionAnswer). pos q.refusal) is ∙ sym (numbered (answered corrected));
         kept = λ t. record {
           numbers = (C.numbers_are ∙ ap (λ (q : CorrectionAnswer). q.state) is) t;
           corners = k'.corners;
@@ -109,8 +102,8 @@ module _ (call : Call) (d : Prepared) (number : ℤ) (k' : Kept) (C : Correction
 
 -- a look-up
 reply_number_lem : (reply : Reply) → reply_number reply ≡ answer_number (answer_of reply)
-reply_number_lem (Reply.TheVariants.At location) = refl
-reply_number_lem (Reply.TheVariants.Refused refusal) = refl
+reply_number_lem (Ok location) = refl
+reply_number_lem (Err refusal) = refl
 
 -- ring by ring on tables that are sound unless the plan is marked, so that none is short
 ring_looked : (call : Call) (d : Prepared) → Fit d → (ranged : Bool) (location : Location) (reply : Reply) → LookedUp d.state d.corners d.rings d.polygons ranged location reply → Ways.Looked call d ranged location reply
@@ -121,7 +114,7 @@ ring_looked call d fit ranged location reply l = record {
   exact = λ s unmarked. l.exact s.plan unmarked;
 }
   where
-    go : (m : Bool) → d.state.out_of_range ≡ m → (refusal : Refusal) → reply ≡ Reply.TheVariants.Refused refusal → ⊥
+    go : (m : Bool) → d.state.out_of_range ≡ m → (refusal : Refusal) → reply ≡ Err refusal → ⊥
     go true f refusal e = at_refused Outside refusal (sym (l.early (inl f)) ∙ e)
     go false f refusal e = at_refused location refusal (sym (l.exact (fit f).plan f) ∙ e)
 
@@ -143,12 +136,12 @@ module _ (call : Call) (ranged : Point → Bool) (location : Plan → Point → 
     where
       by_boxes : Replied (state_named (state_numbers d.state)) ByBoxes number → Stepped call d number k'
       by_boxes promised =
-          let named : (reply : Reply) × ByBoxes d.state reply × (number ≡ reply_number reply) = subst (λ (n : NamedState). Replied n ByBoxes number) (state_returns d.state) promised in
+          let named : (reply : Reply) × ByBoxes d.state reply × (number ≡ reply_number reply) = subst (λ (n : Option State). Replied n ByBoxes number) (state_returns d.state) promised in
           replied named.0 (step named.0 named.1) named.2
 
       by_rings : Replied (state_named (state_numbers d.state)) ByRings number → Stepped call d number k'
       by_rings promised =
-          let named : (reply : Reply) × ByRings d.state reply × (number ≡ reply_number reply) = subst (λ (n : NamedState). Replied n ByRings number) (state_returns d.state) promised in
+          let named : (reply : Reply) × ByRings d.state reply × (number ≡ reply_number reply) = subst (λ (n : Option State). Replied n ByRings number) (state_returns d.state) promised in
           replied named.0 (ring_step named.0 (ring_looked call d fit (ranged p) (location (plan_held d) p) named.0 named.1)) named.2
 
 stepped : (call : Call) (d : Prepared) (number : ℤ) (k' : Kept) → Fit d → ExportCalled call (kept_of d) number k' → Stepped call d number k'
@@ -225,22 +218,22 @@ module _ (coordinates : List ℤ) (lengths counts : List ℕ) (before first : Ta
   -- a plan of a named kind, prepared in these tables, and its state in numbers
   pub record Started (number : ℕ) (answer : PrepareAnswer) : Type 0 where
     pub kind : Kind
-    pub named : kind_named number ≡ NamedKind.TheVariants.Known kind
+    pub named : kind_named number ≡ Some kind
     pub state : State
     pub nodes : ℕ
-    pub prepared : PreparingTables.Prepared (plan_of_kind kind) before first (Ready state nodes)
+    pub prepared : PreparingTables.Prepared (plan_of_kind kind) before first (ready_with state nodes)
     pub numbers : answer.state ≡ state_numbers state
 
   pub prepare_started : (number : ℕ) (answer : PrepareAnswer) → PrepareSays (kind_named number) (λ kind preparing. PreparingTables.Prepared (plan_of_kind kind) before first preparing) (first ≡ before) answer → answer.refusal ≡ 0 → Started number answer
   prepare_started number answer P accepted = go (kind_named number) refl P
     where
-      ready : (kind : Kind) (preparing : Preparing) → kind_named number ≡ NamedKind.TheVariants.Known kind → PreparingTables.Prepared (plan_of_kind kind) before first preparing → answer ≡ prepare_numbers preparing → Started number answer
-      ready kind (Ready state nodes) e Q is = record { kind = kind; named = e; state = state; nodes = nodes; prepared = Q; numbers = ap (λ (q : PrepareAnswer). q.state) is }
-      ready kind (Preparing.TheVariants.Refused refusal) e Q is = absurd (positive refusal (sym (ap (λ (q : PrepareAnswer). q.refusal) is) ∙ accepted))
+      ready : (kind : Kind) (preparing : Preparing) → kind_named number ≡ Some kind → PreparingTables.Prepared (plan_of_kind kind) before first preparing → answer ≡ prepare_numbers preparing → Started number answer
+      ready kind (Ok given) e Q is = record { kind = kind; named = e; state = given.state; nodes = given.nodes; prepared = Q; numbers = ap (λ (q : PrepareAnswer). q.state) is }
+      ready kind (Err refusal) e Q is = absurd (positive refusal (sym (ap (λ (q : PrepareAnswer). q.refusal) is) ∙ accepted))
 
-      go : (named : NamedKind) → kind_named number ≡ named → PrepareSays named (λ kind preparing. PreparingTables.Prepared (plan_of_kind kind) before first preparing) (first ≡ before) answer → Started number answer
-      go NamedKind.TheVariants.Unknown e Q = absurd (positive Unsound (sym (ap (λ (q : PrepareAnswer). q.refusal) Q.1) ∙ accepted))
-      go (NamedKind.TheVariants.Known kind) e Q = ready kind Q.0 e Q.1 Q.2
+      go : (named : Option Kind) → kind_named number ≡ named → PrepareSays named (λ kind preparing. PreparingTables.Prepared (plan_of_kind kind) before first preparing) (first ≡ before) answer → Started number answer
+      go None e Q = absurd (positive Unsound (sym (ap (λ (q : PrepareAnswer). q.refusal) Q.1) ∙ accepted))
+      go (Some kind) e Q = ready kind Q.0 e Q.1 Q.2
 
   -- ---- a session from a plan that `findspot_prepare` accepted, with any undo table
   module _ (number : ℕ) (answer : PrepareAnswer) (S : Started number answer) (undo : List (List ℤ)) (requests : List Request) where

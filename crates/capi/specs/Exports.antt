@@ -1,39 +1,29 @@
 -- What the exports over lent tables answer (document 01, items 6 to 9 and 11).
-use Rattle.std.specs.Prelude.{◌≡◌, Bool, List, ℕ, ℤ}
+use Rattle.std.specs.Prelude.{◌≡◌, Bool, List, ℕ, ℤ, Err, None, Option, Some, Ok}
 use Rattle.geom.specs.declared.Point.{Point}
 use Rattle.rules.specs.declared.Kind.{Kind}
 use Rattle.rules.specs.declared.Location.{Location}
 use Rattle.rules.specs.declared.Refusal.TheVariants.{Unsound}
 use Rattle.rules.specs.declared.State.{State}
-use Rattle.rules.specs.declared.Verdict.{Verdict}
-use Rattle.rules.specs.declared.Verdict.TheVariants.{Accepted}
-use Rattle.rules.specs.declared.Verdict as Verdict
 use Rattle.rules.specs.Numbers.{refusal_number, refusal_detail}
 use Rattle.rules.specs.Plans.{Plan}
 use Rattle.rules.specs.Tables.{plan_of}
-use Rattle.prepare.specs.declared.Preparing.{Preparing}
-use Rattle.prepare.specs.declared.Preparing.TheVariants.{Ready}
-use Rattle.prepare.specs.declared.Preparing as Preparing
-use Rattle.prepared.specs.declared.first.First.{First}
-use Rattle.prepared.specs.declared.first.First as First
 use Rattle.query.specs.Calls.{LookedUp}
 use Rattle.prepared.specs.Calls.{Looked}
-use Rattle.prepared.specs.Firsts.{points_verdict, first_number}
+use Rattle.prepared.specs.Firsts.{points_verdict, first_number, First, found_at, all_outside}
 use Rattle.model.specs.declared.Answer.{Answer}
 use Rattle.model.specs.declared.Answer as Answer
 use Rattle.model.specs.declared.Call.{Call}
 use Rattle.model.specs.Prepared.{prepared_of}
 use Rattle.model.specs.Steps.{Step}
-use Rattle.corrections.specs.declared.Corrected.{Corrected}
+use Rattle.corrections.specs.Corrected.{Corrected, answered, state_after}
 use Rattle.states.specs.declared.StateNumbers.{StateNumbers}
-use Rattle.states.specs.declared.NamedKind.{NamedKind}
-use Rattle.states.specs.declared.NamedKind as NamedKind
-use Rattle.states.specs.declared.NamedState.{NamedState}
-use Rattle.states.specs.declared.NamedState.TheVariants.{Known, Unknown}
 use Rattle.capi.specs.declared.exports.PrepareAnswer.{PrepareAnswer}
 use Rattle.capi.specs.declared.exports.FirstAnswer.{FirstAnswer}
 use Rattle.capi.specs.declared.moves.CorrectionAnswer.{CorrectionAnswer}
 use Rattle.states.specs.States.{state_named, state_numbers, Replied}
+use Rattle.rules.specs.Answering.{Verdict, Accepted}
+use Rattle.prepare.specs.Answers.{Preparing}
 
 -- a look-up through the boxes, of a point that is in range or not, and the place that the plan in the tables gives it
 abbrev pub LooksUp : (Point → Bool) → (Plan → Point → Location) → StateNumbers → List ℤ → List ℕ → List ℕ → List (List ℤ) → List (List ℕ) → List ℕ → Point → ℤ → Type 0
@@ -47,26 +37,26 @@ LooksUpByRings ranged location numbers corners rings polygons p answer =
 
 -- what a list of points is answered in numbers: the refusal, 1 where a point is not outside, and its place
 abbrev pub first_found : First → ℕ
-first_found (First.TheVariants.At k) = 1
-first_found First.TheVariants.AllOutside = 0
-first_found (First.TheVariants.Refused refusal) = 0
+first_found (found_at k) = 1
+first_found all_outside = 0
+first_found (Err refusal) = 0
 
 abbrev pub first_place : First → ℕ
-first_place (First.TheVariants.At k) = k
-first_place First.TheVariants.AllOutside = 0
-first_place (First.TheVariants.Refused refusal) = 0
+first_place (found_at k) = k
+first_place all_outside = 0
+first_place (Err refusal) = 0
 
 abbrev pub first_numbers : First → FirstAnswer
 first_numbers first = record { refusal = first_number first; found = first_found first; place = first_place first }
 
 -- "coin list 4, 3, 15": the list's own refusal comes before that of numbers that name no state
 abbrev pub unnamed_first : Verdict → First
-unnamed_first Accepted = First.TheVariants.Refused Unsound
-unnamed_first (Verdict.TheVariants.Refused refusal) = First.TheVariants.Refused refusal
+unnamed_first Accepted = Err Unsound
+unnamed_first (Err refusal) = Err refusal
 
-abbrev pub Listed : NamedState → List ℤ → (State → First → Type 0) → FirstAnswer → Type 0
-Listed Unknown points Promised answer = answer ≡ first_numbers (unnamed_first (points_verdict points))
-Listed (Known state) points Promised answer = (first : First) × Promised state first × (answer ≡ first_numbers first)
+abbrev pub Listed : (Option State) → List ℤ → (State → First → Type 0) → FirstAnswer → Type 0
+Listed None points Promised answer = answer ≡ first_numbers (unnamed_first (points_verdict points))
+Listed (Some state) points Promised answer = (first : First) × Promised state first × (answer ≡ first_numbers first)
 
 -- the numbers of no state
 abbrev pub no_state : StateNumbers
@@ -74,13 +64,13 @@ no_state = record { kind = 0; out_of_range = 0; corners = 0; rings = 0; polygons
 
 -- what preparing answers in numbers
 abbrev pub prepare_numbers : Preparing → PrepareAnswer
-prepare_numbers (Ready state nodes) = record { refusal = 0; table = 0; nodes = nodes; state = state_numbers state }
-prepare_numbers (Preparing.TheVariants.Refused refusal) = record { refusal = refusal_number refusal; table = refusal_detail refusal; nodes = 0; state = no_state }
+prepare_numbers (Ok ready) = record { refusal = 0; table = 0; nodes = ready.nodes; state = state_numbers ready.state }
+prepare_numbers (Err refusal) = record { refusal = refusal_number refusal; table = refusal_detail refusal; nodes = 0; state = no_state }
 
 -- by what is promised of a plan of this kind; 15, and the tables as they were, where the number names no kind
-abbrev pub PrepareSays : NamedKind → (Kind → Preparing → Type 0) → Type 0 → PrepareAnswer → Type 0
-PrepareSays NamedKind.TheVariants.Unknown Promised Same answer = Same × (answer ≡ prepare_numbers (Preparing.TheVariants.Refused Unsound))
-PrepareSays (NamedKind.TheVariants.Known kind) Promised Same answer = (preparing : Preparing) × Promised kind preparing × (answer ≡ prepare_numbers preparing)
+abbrev pub PrepareSays : (Option Kind) → (Kind → Preparing → Type 0) → Type 0 → PrepareAnswer → Type 0
+PrepareSays None Promised Same answer = Same × (answer ≡ prepare_numbers (Err Unsound))
+PrepareSays (Some kind) Promised Same answer = (preparing : Preparing) × Promised kind preparing × (answer ≡ prepare_numbers preparing)
 
 -- ---- a move or an undo
 
@@ -91,13 +81,13 @@ correction_refusal Answer.TheVariants.Accepted = 0
 correction_refusal (Answer.TheVariants.Refused refusal) = refusal_number refusal
 
 -- what it answers in numbers, with the state that goes with the tables from then on
-abbrev pub correction_numbers : Corrected → CorrectionAnswer
-correction_numbers corrected = record { refusal = correction_refusal corrected.answer; state = state_numbers corrected.state }
+abbrev pub correction_numbers : State → Corrected → CorrectionAnswer
+correction_numbers state corrected = record { refusal = correction_refusal (answered corrected); state = state_numbers (state_after state corrected) }
 
 -- by what is promised of a correction from this state; 15, with the tables and the numbers as they were, where the numbers name no state
-abbrev pub CorrectionSays : NamedState → (State → Corrected → Type 0) → Type 0 → StateNumbers → CorrectionAnswer → Type 0
-CorrectionSays Unknown Promised Same numbers answer = Same × (answer ≡ record { refusal = refusal_number Unsound; state = numbers })
-CorrectionSays (Known state) Promised Same numbers answer = (corrected : Corrected) × Promised state corrected × (answer ≡ correction_numbers corrected)
+abbrev pub CorrectionSays : (Option State) → (State → Corrected → Type 0) → Type 0 → StateNumbers → CorrectionAnswer → Type 0
+CorrectionSays None Promised Same numbers answer = Same × (answer ≡ record { refusal = refusal_number Unsound; state = numbers })
+CorrectionSays (Some state) Promised Same numbers answer = (corrected : Corrected) × Promised state corrected × (answer ≡ correction_numbers state corrected)
 
 -- the tables that a correction may write
 pub record Written : Type 0 where
@@ -109,5 +99,5 @@ pub record Written : Type 0 where
 abbrev pub Corrects : Call → StateNumbers → List ℤ → List ℕ → List (List ℤ) → List (List ℕ) → List ℕ → List (List ℤ) → List ℤ → List (List ℤ) → List (List ℤ) → CorrectionAnswer → Type 0
 Corrects call numbers corners rings boxes parts edges undo corners' boxes' undo' answer =
     CorrectionSays (state_named numbers)
-    (λ s corrected. ((polygons : List ℕ) → Step call (prepared_of s corners rings polygons boxes parts edges undo) corrected.answer (prepared_of corrected.state corners' rings polygons boxes' parts edges undo')))
+    (λ s corrected. ((polygons : List ℕ) → Step call (prepared_of s corners rings polygons boxes parts edges undo) (answered corrected) (prepared_of (state_after s corrected) corners' rings polygons boxes' parts edges undo')))
     (◌≡◌ {A = Written} (record { corners = corners'; boxes = boxes'; undo = undo' }) (record { corners = corners; boxes = boxes; undo = undo })) numbers answer

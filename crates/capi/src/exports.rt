@@ -1,9 +1,8 @@
 // The exports for a server that keeps prepared plans: tables as slices that it lends, a state as six numbers, answers as numbers
 // (document 01, items 6 to 8). None asks anything of its caller; tables that are lent to a look-up are only read.
-ghost use Rattle.std.specs.Prelude.{◌≡◌};
+ghost use Rattle.std.specs.Prelude.{◌≡◌, Err};
 ghost use Rattle.geom.specs.Range.{in_range, in_doubled_range};
 ghost use Rattle.rules.specs.declared.Refusal.TheVariants.{Unsound};
-ghost use Rattle.rules.specs.declared.Reply.TheVariants.{Refused};
 ghost use Rattle.rules.specs.Numbers.{reply_number};
 ghost use Rattle.rules.specs.Plans.{plan_reply, plan_half_reply};
 ghost use Rattle.prepare.specs.Tables.{Tables, Prepared};
@@ -12,12 +11,12 @@ ghost use Rattle.states.specs.States.{kind_named, state_named};
 ghost use Rattle.capi.specs.Exports.{no_state, first_numbers, prepare_numbers, unnamed_first, LooksUp, LooksUpByRings, Listed, PrepareSays};
 
 use geom::Point;
-use prepare::{Preparing, prepare};
-use prepared::first::{First, first_not_outside, judge_points};
-use prepared::locate::{locate, locate_doubled};
-use query::{locate_by_rings, locate_doubled_by_rings};
-use rules::{Refusal, Reply, Verdict, refusal_detail, refusal_number, reply_number};
-use states::{NamedKind, NamedState, StateNumbers, kind_of, numbers_of, state_of};
+use prepare::{Ready, prepare};
+use prepared::first::{first_not_outside, judge_points};
+use prepared::locate::locate;
+use query::locate_by_rings;
+use rules::{Refusal, Spot, refusal_detail, refusal_number, reply_number};
+use states::{StateNumbers, kind_of, numbers_of, state_of};
 
 /// What preparing answers: the refusal number or 0, the table that refusal 11 names or 0, the number of nodes, and the state (zeros
 /// where it is refused).
@@ -39,11 +38,11 @@ pub struct FirstAnswer {
     pub place: usize,
 }
 
-// 15.
+// Minus 15.
 fn unsound() -> i64
-    ensures { result ≡ reply_number (Refused Unsound) }
+    ensures { result ≡ reply_number (Err Unsound) }
 {
-    reply_number(Reply::Refused(Refusal::Unsound))
+    reply_number(Err(Refusal::Unsound))
 }
 
 // The numbers of no state.
@@ -61,17 +60,17 @@ fn no_state() -> StateNumbers
 }
 
 // What preparing answers, in numbers.
-fn prepare_answer(preparing: Preparing) -> PrepareAnswer
+fn prepare_answer(preparing: Result<Ready, Refusal>) -> PrepareAnswer
     ensures { result ≡ prepare_numbers preparing }
 {
     match preparing {
-        Preparing::Ready(state, nodes) => PrepareAnswer {
+        Ok(ready) => PrepareAnswer {
             refusal: 0,
             table: 0,
-            nodes,
-            state: numbers_of(state),
+            nodes: ready.nodes,
+            state: numbers_of(ready.state),
         },
-        Preparing::Refused(refusal) => PrepareAnswer {
+        Err(refusal) => PrepareAnswer {
             refusal: refusal_number(refusal),
             table: refusal_detail(refusal),
             nodes: 0,
@@ -81,21 +80,21 @@ fn prepare_answer(preparing: Preparing) -> PrepareAnswer
 }
 
 // What a list of points is answered, in numbers.
-fn first_answer(first: First) -> FirstAnswer
+fn first_answer(first: Result<Option<usize>, Refusal>) -> FirstAnswer
     ensures { result ≡ first_numbers first }
 {
     match first {
-        First::At(place) => FirstAnswer {
+        Ok(Some(place)) => FirstAnswer {
             refusal: 0,
             found: 1,
             place,
         },
-        First::AllOutside => FirstAnswer {
+        Ok(None) => FirstAnswer {
             refusal: 0,
             found: 0,
             place: 0,
         },
-        First::Refused(refusal) => FirstAnswer {
+        Err(refusal) => FirstAnswer {
             refusal: refusal_number(refusal),
             found: 0,
             place: 0,
@@ -122,8 +121,8 @@ pub extern "C" fn findspot_prepare(
     ensures { PrepareSays (kind_named kind) (λ k preparing. Prepared (record { kind = k; coordinates = coordinates.now; lengths = lengths.now; counts = counts.now }) (record { corners = corners.old; rings = rings.old; polygons = polygons.old; boxes = boxes.old; parts = parts.old; edges = edges.old }) (record { corners = corners.new; rings = rings.new; polygons = polygons.new; boxes = boxes.new; parts = parts.new; edges = edges.new }) preparing) (◌≡◌ {A = Tables} (record { corners = corners.new; rings = rings.new; polygons = polygons.new; boxes = boxes.new; parts = parts.new; edges = edges.new }) (record { corners = corners.old; rings = rings.old; polygons = polygons.old; boxes = boxes.old; parts = parts.old; edges = edges.old })) result }
 {
     match kind_of(kind) {
-        NamedKind::Unknown => prepare_answer(Preparing::Refused(Refusal::Unsound)),
-        NamedKind::Known(known) => prepare_answer(prepare(
+        None => prepare_answer(Err(Refusal::Unsound)),
+        Some(known) => prepare_answer(prepare(
             known,
             coordinates,
             lengths,
@@ -155,8 +154,8 @@ pub extern "C" fn findspot_locate(
     ensures { LooksUp in_range plan_reply state corners.now rings.now polygons.now boxes.now parts.now edges.now (record { x = x; y = y }) result }
 {
     match state_of(state) {
-        NamedState::Unknown => unsound(),
-        NamedState::Known(known) => reply_number(locate(
+        None => unsound(),
+        Some(known) => reply_number(locate(
             known,
             corners,
             rings,
@@ -164,7 +163,7 @@ pub extern "C" fn findspot_locate(
             boxes,
             parts,
             edges,
-            Point { x: x, y: y },
+            Spot::OnGrid(Point { x, y }),
         )),
     }
 }
@@ -185,8 +184,8 @@ pub extern "C" fn findspot_locate_doubled(
     ensures { LooksUp in_doubled_range plan_half_reply state corners.now rings.now polygons.now boxes.now parts.now edges.now (record { x = x; y = y }) result }
 {
     match state_of(state) {
-        NamedState::Unknown => unsound(),
-        NamedState::Known(known) => reply_number(locate_doubled(
+        None => unsound(),
+        Some(known) => reply_number(locate(
             known,
             corners,
             rings,
@@ -194,7 +193,7 @@ pub extern "C" fn findspot_locate_doubled(
             boxes,
             parts,
             edges,
-            Point { x: x, y: y },
+            Spot::Doubled(Point { x, y }),
         )),
     }
 }
@@ -212,13 +211,13 @@ pub extern "C" fn findspot_locate_by_rings(
     ensures { LooksUpByRings in_range plan_reply state corners.now rings.now polygons.now (record { x = x; y = y }) result }
 {
     match state_of(state) {
-        NamedState::Unknown => unsound(),
-        NamedState::Known(known) => reply_number(locate_by_rings(
+        None => unsound(),
+        Some(known) => reply_number(locate_by_rings(
             known,
             corners,
             rings,
             polygons,
-            Point { x: x, y: y },
+            Spot::OnGrid(Point { x, y }),
         )),
     }
 }
@@ -236,25 +235,23 @@ pub extern "C" fn findspot_locate_doubled_by_rings(
     ensures { LooksUpByRings in_doubled_range plan_half_reply state corners.now rings.now polygons.now (record { x = x; y = y }) result }
 {
     match state_of(state) {
-        NamedState::Unknown => unsound(),
-        NamedState::Known(known) => reply_number(locate_doubled_by_rings(
+        None => unsound(),
+        Some(known) => reply_number(locate_by_rings(
             known,
             corners,
             rings,
             polygons,
-            Point { x: x, y: y },
+            Spot::Doubled(Point { x, y }),
         )),
     }
 }
 
 // What a list of points is answered where the numbers name no state: its own 4 or 3, else 15.
-fn unnamed_first(points: &[i64]) -> First
+fn unnamed_first(points: &[i64]) -> Result<Option<usize>, Refusal>
     ensures { result ≡ unnamed_first (points_verdict points.now) }
 {
-    match judge_points(points) {
-        Verdict::Refused(refusal) => First::Refused(refusal),
-        Verdict::Accepted => First::Refused(Refusal::Unsound),
-    }
+    judge_points(points)?;
+    Err(Refusal::Unsound)
 }
 
 /// The first of the listed points x, y, x, y, .. that is not outside, through the boxes. Refused, in this order, with 4 or 3 where the list is
@@ -273,8 +270,8 @@ pub extern "C" fn findspot_first_not_outside(
     ensures { Listed (state_named state) points.now (λ s first. FirstSays s corners.now rings.now polygons.now boxes.now parts.now edges.now points.now first) result }
 {
     match state_of(state) {
-        NamedState::Unknown => first_answer(unnamed_first(points)),
-        NamedState::Known(known) => first_answer(first_not_outside(
+        None => first_answer(unnamed_first(points)),
+        Some(known) => first_answer(first_not_outside(
             known, corners, rings, polygons, boxes, parts, edges, points,
         )),
     }

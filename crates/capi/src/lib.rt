@@ -12,8 +12,8 @@ pub mod wellknown;
 
 use geom::Point;
 use query::locate;
-use rules::{Reply, reply_number};
-use text::{Reading, read_plan};
+use rules::{Reply, Spot, reply_number};
+use text::read_plan;
 
 // Where p lies in the plan of a text, read into tables that have room for any text's plan.
 fn locate_in(
@@ -26,16 +26,14 @@ fn locate_in(
     requires { Roomy corners.old lengths.old counts.old }
     ensures { result ≡ text_reply text.now p }
 {
-    match read_plan(text, corners, lengths, counts) {
-        Reading::Read(size) => {
-            let kind = size.kind;
-            let n = 2 * size.corners;
-            let r = size.rings;
-            let q = size.polygons;
-            locate(kind, &corners[..n], &lengths[..r], &counts[..q], p)
-        }
-        Reading::Refused(refusal) => Reply::Refused(refusal),
-    }
+    let size = read_plan(text, corners, lengths, counts)?;
+    locate(
+        size.kind,
+        &corners[..2 * size.corners],
+        &lengths[..size.rings],
+        &counts[..size.polygons],
+        Spot::OnGrid(p),
+    )
 }
 
 /// Where the point (x, y) lies in the plan that a text gives, ring by ring.

@@ -1,13 +1,12 @@
 // Corrections for a server that keeps prepared plans: a corner moved and a move undone over tables that it lends (document 01, item 9).
 ghost use Rattle.std.specs.Prelude.{◌≡◌};
 ghost use Rattle.model.specs.declared.Call.TheVariants.{Move, Undo};
-ghost use Rattle.capi.specs.Exports.{correction_refusal, correction_numbers, Corrects};
+ghost use Rattle.capi.specs.Exports.{correction_numbers, Corrects};
 
-use corrections::{Corrected, move_corner, undo};
+use corrections::{move_corner, undo};
 use geom::Point;
-use model::Answer;
-use rules::{Refusal, refusal_number};
-use states::{NamedState, StateNumbers, numbers_of, state_of};
+use rules::{Refusal, State, refusal_number};
+use states::{StateNumbers, numbers_of, state_of};
 
 /// What a correction answers: 0 where it is accepted, or the refusal number; and the state that goes with the tables from now on, which
 /// a refusal leaves as it was.
@@ -18,26 +17,19 @@ pub struct CorrectionAnswer {
     pub state: StateNumbers,
 }
 
-// 0, or the refusal's number.
-fn refusal_in(answer: Answer) -> usize
-    ensures { result ≡ correction_refusal answer }
+// What a correction from this state answers, in numbers.
+fn correction_answer(state: State, correction: Result<State, Refusal>) -> CorrectionAnswer
+    ensures { result ≡ correction_numbers state correction }
 {
-    match answer {
-        Answer::At(_) => 0,
-        Answer::Accepted => 0,
-        Answer::Refused(refusal) => refusal_number(refusal),
-    }
-}
-
-// What a correction answers, in numbers.
-fn correction_answer(corrected: Corrected) -> CorrectionAnswer
-    ensures { result ≡ correction_numbers corrected }
-{
-    let answer = corrected.answer;
-    let state = corrected.state;
-    CorrectionAnswer {
-        refusal: refusal_in(answer),
-        state: numbers_of(state),
+    match correction {
+        Ok(next) => CorrectionAnswer {
+            refusal: 0,
+            state: numbers_of(next),
+        },
+        Err(refusal) => CorrectionAnswer {
+            refusal: refusal_number(refusal),
+            state: numbers_of(state),
+        },
     }
 }
 
@@ -60,21 +52,24 @@ pub extern "C" fn findspot_move(
     ensures { Corrects (Move corner (record { x = x; y = y })) state corners.old rings.now boxes.old parts.now edges.now undo.old corners.new boxes.new undo.new result }
 {
     match state_of(state) {
-        NamedState::Unknown => CorrectionAnswer {
+        None => CorrectionAnswer {
             refusal: refusal_number(Refusal::Unsound),
-            state: state,
+            state,
         },
-        NamedState::Known(known) => correction_answer(move_corner(
+        Some(known) => correction_answer(
             known,
-            corners,
-            rings,
-            boxes,
-            parts,
-            edges,
-            undo,
-            corner,
-            Point { x: x, y: y },
-        )),
+            move_corner(
+                known,
+                corners,
+                rings,
+                boxes,
+                parts,
+                edges,
+                undo,
+                corner,
+                Point { x, y },
+            ),
+        ),
     }
 }
 
@@ -94,12 +89,13 @@ pub extern "C" fn findspot_undo(
     ensures { Corrects Undo state corners.old rings.now boxes.old parts.now edges.now records.now corners.new boxes.new records.now result }
 {
     match state_of(state) {
-        NamedState::Unknown => CorrectionAnswer {
+        None => CorrectionAnswer {
             refusal: refusal_number(Refusal::Unsound),
-            state: state,
+            state,
         },
-        NamedState::Known(known) => correction_answer(undo(
-            known, corners, rings, boxes, parts, edges, records,
-        )),
+        Some(known) => correction_answer(
+            known,
+            undo(known, corners, rings, boxes, parts, edges, records),
+        ),
     }
 }

@@ -1,11 +1,12 @@
 // Plans as text for a server: a text read into tables that it lends, a line of a text, and how many nodes a plan has (document 01, items 5
 // and 10).
-ghost use Rattle.std.specs.Prelude.{◌≡◌};
+ghost use Rattle.std.specs.Prelude.{◌≡◌, Result};
 ghost use Rattle.rules.specs.Nodes.{node_count};
-ghost use Rattle.text.specs.declared.Reading.{Reading};
 ghost use Rattle.text.specs.Lines.{LineSpan};
 ghost use Rattle.text.specs.Numbers.{reading_numbers};
 ghost use Rattle.text.specs.Readings.{PlanRead};
+ghost use Rattle.lines.specs.declared.Size.{Size};
+ghost use Rattle.rules.specs.declared.Refusal.{Refusal};
 
 use index::count::node_count;
 use text::numbers::{ReadingNumbers, reading_numbers};
@@ -21,7 +22,7 @@ pub extern "C" fn findspot_read_plan(
     lengths: &mut [usize],
     counts: &mut [usize],
 ) -> ReadingNumbers
-    ensures { (reading : Reading) × PlanRead text.now corners.old corners.new lengths.old lengths.new counts.old counts.new reading × (result ≡ reading_numbers reading) }
+    ensures { (reading : (Result Size Refusal)) × PlanRead text.now corners.old corners.new lengths.old lengths.new counts.old counts.new reading × (result ≡ reading_numbers reading) }
 {
     reading_numbers(read_plan(text, corners, lengths, counts))
 }

@@ -1,12 +1,13 @@
 // Well-Known Text for a server: a text read into tables that it lends, and a plan written into an output that it lends (document 02, R-1).
-ghost use Rattle.std.specs.Prelude.{◌≡◌};
+ghost use Rattle.std.specs.Prelude.{◌≡◌, Result};
 ghost use Rattle.states.specs.States.{kind_named};
-ghost use Rattle.text.specs.declared.Reading.{Reading};
 ghost use Rattle.wkt.specs.Numbers.{read_numbers};
 ghost use Rattle.wkt.specs.Readings.{WktRead};
 ghost use Rattle.capi.specs.WellKnown.{WriteSays};
+ghost use Rattle.lines.specs.declared.Size.{Size};
+ghost use Rattle.rules.specs.declared.Refusal.{Refusal};
 
-use states::{NamedKind, kind_of};
+use states::kind_of;
 use wkt::numbers::{ReadNumbers, WriteNumbers, read_numbers, write_numbers};
 use wkt::read::read_wkt;
 use wkt::write::{unnamed_writing, write_wkt};
@@ -21,7 +22,7 @@ pub extern "C" fn findspot_read_wkt(
     lengths: &mut [usize],
     counts: &mut [usize],
 ) -> ReadNumbers
-    ensures { (reading : Reading) × WktRead text.now corners.old corners.new lengths.old lengths.new counts.old counts.new reading × (result ≡ read_numbers reading) }
+    ensures { (reading : (Result Size Refusal)) × WktRead text.now corners.old corners.new lengths.old lengths.new counts.old counts.new reading × (result ≡ read_numbers reading) }
 {
     read_numbers(read_wkt(text, corners, lengths, counts))
 }
@@ -41,13 +42,7 @@ pub extern "C" fn findspot_write_wkt(
     ensures { WriteSays (kind_named kind) coordinates.now lengths.now counts.now output.old output.new result }
 {
     match kind_of(kind) {
-        NamedKind::Unknown => write_numbers(unnamed_writing(coordinates, lengths, counts)),
-        NamedKind::Known(known) => write_numbers(write_wkt(
-            known,
-            coordinates,
-            lengths,
-            counts,
-            output,
-        )),
+        None => write_numbers(unnamed_writing(coordinates, lengths, counts)),
+        Some(known) => write_numbers(write_wkt(known, coordinates, lengths, counts, output)),
     }
 }

@@ -1,4 +1,5 @@
 -- From a correction to what the public calls promise. Assumes nothing.
+use Rattle.std.specs.Prelude.{Err}
 use mathlib.Core.Path.{◌≡◌, refl, sym, ap, ◌∙◌, subst}
 use mathlib.Core.Bool.{true}
 use mathlib.Core.Logic.{inl, inr}
@@ -17,13 +18,12 @@ use Rattle.model.specs.declared.Answer.{Answer}
 use Rattle.model.specs.declared.Answer.TheVariants.{Accepted, Refused}
 use Rattle.model.specs.declared.Call.{Call}
 use Rattle.model.specs.declared.Call.TheVariants.{Move, Undo}
-use Rattle.model.specs.declared.Early.TheVariants.{Open}
 use Rattle.model.specs.Entries.{Entry, entry_of, undo_row, put_corner, put_back}
 use Rattle.model.specs.Prepared.{Prepared, prepared_of, Sound}
-use Rattle.model.specs.Steps.{move_early, undo_early, early, at_depth, latest, ReachesBeside, Reaches, NamesCorner, Step}
+use Rattle.model.specs.Steps.{move_early, undo_early, early, at_depth, latest, ReachesBeside, Reaches, NamesCorner, Step, Open}
 use Rattle.model.proofs.Ways.{unsound_step, open_move}
 use Rattle.model.proofs.Tables.{Refitted, recorded, move_done, taken_back, undo_done}
-use Rattle.corrections.specs.declared.Corrected.{Corrected}
+use Rattle.corrections.specs.Corrected.{Corrected, answered, state_after}
 use Rattle.placing.specs.Ways.{CorrectionSound}
 use Rattle.placing.specs.Places.{MadeAt, Unmade}
 use Rattle.corrections.specs.TakingBack.{PutBack, TakenBack}
@@ -40,10 +40,10 @@ module _ (state : State) (corners : List ℤ) (rings polygons : List ℕ) (boxes
       record { reach = near.reach; few = near.few; ends = plan_rings state corners rings polygons S.plan; index = S.index }
 
   -- 15: nothing changed, and no sound tables get it
-  pub refused_step : (corners' : List ℤ) (boxes' : List (List ℤ)) (call : Call) (r : Corrected) → r ≡ record { answer = Refused Unsound; state = state } → early call given ≡ Open → corners' ≡ corners → boxes' ≡ boxes → (Sound given → ⊥)
-      → Step call given r.answer (prepared_of r.state corners' rings polygons boxes' parts edges undo)
+  pub refused_step : (corners' : List ℤ) (boxes' : List (List ℤ)) (call : Call) (r : Corrected) → r ≡ Err Unsound → early call given ≡ Open → corners' ≡ corners → boxes' ≡ boxes → (Sound given → ⊥)
+      → Step call given (answered r) (prepared_of (state_after state r) corners' rings polygons boxes' parts edges undo)
   refused_step corners' boxes' call r is e same same₂ never =
-      subst (λ (q : Corrected). Step call given q.answer (prepared_of q.state corners' rings polygons boxes' parts edges undo)) (sym is)
+      subst (λ (q : Corrected). Step call given (answered q) (prepared_of (state_after state q) corners' rings polygons boxes' parts edges undo)) (sym is)
       (subst (λ (d : Prepared). Step call given (Refused Unsound) d) (λ t. prepared_of state (sym same t) rings polygons (sym same₂ t) parts edges undo)
       (unsound_step call given e never))
 
@@ -75,18 +75,18 @@ module _ (state : State) (corners : List ℤ) (rings polygons : List ℕ) (boxes
         left = λ t. prepared_of (s t) (M.corners_are t) rings polygons boxes' parts edges (row t)
 
     -- a correction that was not made
-    pub unmade_step : (call : Call) (r : Corrected) → r ≡ record { answer = Refused Unsound; state = state } → early call given ≡ Open → i < state.corners → Unmade state.corners state.rings rings parts edges i corners boxes corners' boxes'
-        → Step call given r.answer (prepared_of r.state corners' rings polygons boxes' parts edges undo)
+    pub unmade_step : (call : Call) (r : Corrected) → r ≡ Err Unsound → early call given ≡ Open → i < state.corners → Unmade state.corners state.rings rings parts edges i corners boxes corners' boxes'
+        → Step call given (answered r) (prepared_of (state_after state r) corners' rings polygons boxes' parts edges undo)
     unmade_step call r is e one U = refused_step corners' boxes' call r is e U.corners_same U.boxes_same (λ S. U.never (correction_sound S) one)
 
     -- a corner put back where the latest record says
     module _ (L : LatestIs state undo i place) (r : Corrected) where
       left : Prepared
-      left = prepared_of r.state corners' rings polygons boxes' parts edges undo
+      left = prepared_of (state_after state r) corners' rings polygons boxes' parts edges undo
 
       taken_is : PutBack state rings parts edges i place corners boxes corners' boxes' r → left ≡ taken_back given boxes'
       unfolding left
-      taken_is B = λ t. prepared_of (B.state_is t) ((B.made.corners_are ∙ (λ u. put_corner corners (L.corner u) (L.place_is u))) t) rings polygons boxes' parts edges undo
+      taken_is B = λ t. prepared_of (state_after state (B.accepted t)) ((B.made.corners_are ∙ (λ u. put_corner corners (L.corner u) (L.place_is u))) t) rings polygons boxes' parts edges undo
 
       taken_refitted : PutBack state rings parts edges i place corners boxes corners' boxes' r → Sound given → Refitted given (latest given).corner (put_back corners (latest given)) boxes'
       taken_refitted B S = subst (λ (e : Entry). Refitted given e.corner (put_back corners e) boxes') (λ t. record { corner = L.corner t; place = L.place_is t }) (made_refitted B.old B.made S)
@@ -95,10 +95,10 @@ module _ (state : State) (corners : List ℤ) (rings polygons : List ℕ) (boxes
       taken_names : NamesCorner Undo given
       taken_names = (subst (λ k. k < state.corners) L.corner L.one, sym (ap in_range L.place_is) ∙ L.near)
 
-      pub taken_step : undo_early state ≡ Open → TakenBack state rings parts edges i place corners boxes corners' boxes' r → Step Undo given r.answer (prepared_of r.state corners' rings polygons boxes' parts edges undo)
+      pub taken_step : undo_early state ≡ Open → TakenBack state rings parts edges i place corners boxes corners' boxes' r → Step Undo given (answered r) (prepared_of (state_after state r) corners' rings polygons boxes' parts edges undo)
       unfolding left
       taken_step e (inl B) =
-          subst (λ (a : Answer). Step Undo given a left) (sym B.answer)
+          subst (λ (a : Answer). Step Undo given a left) (sym (ap answered B.accepted))
           (subst (λ (d : Prepared). Step Undo given Accepted d) (sym (taken_is B))
           (undo_done given e boxes' (made_reaches B.old B.made Undo L.reach) taken_names (taken_refitted B)))
       taken_step e (inr N) = unmade_step Undo r N.is e L.one N.unmade

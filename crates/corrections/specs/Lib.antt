@@ -1,2 +1,3 @@
+pub mod Corrected
 pub mod TakingBack
 pub mod Records

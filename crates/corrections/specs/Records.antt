@@ -1,13 +1,12 @@
 -- The latest undo record, on any undo table (document 01, item 9, refusal 15).
-use Rattle.std.specs.Prelude.{◌≡◌, true, List, [], ℕ, ◌-◌, ◌≤◌, ◌<◌, ℤ, length, get_or}
+use Rattle.std.specs.Prelude.{◌≡◌, true, List, [], ℕ, ◌-◌, ◌≤◌, ◌<◌, ℤ, length, get_or, Result, Ok, Err}
 use Rattle.geom.specs.declared.Point.{Point}
 use Rattle.geom.specs.Range.{in_range}
 use Rattle.rules.specs.declared.State.{State}
+use Rattle.rules.specs.declared.Unsound.{Unsound}
 use Rattle.model.specs.Entries.{entry_in}
 use Rattle.model.specs.Prepared.{UndoSound}
-use Rattle.corrections.specs.declared.records.Latest.{Latest}
-use Rattle.corrections.specs.declared.records.Latest.TheVariants.{At}
-use Rattle.corrections.specs.declared.records.Latest as Latest
+use Rattle.corrections.specs.declared.records.Record.{Record}
 
 -- the latest record names corner i, one of the plan's, and a place in range
 pub record LatestIs (state : State) (undo : List (List ℤ)) (i : ℕ) (place : Point) : Type 0 where
@@ -17,6 +16,6 @@ pub record LatestIs (state : State) (undo : List (List ℤ)) (i : ℕ) (place : 
   pub one : i < state.corners
   pub near : in_range place ≡ true
 
-abbrev pub LatestSays : State → List (List ℤ) → Latest → Type 0
-LatestSays state undo (At i place) = LatestIs state undo i place
-LatestSays state undo Latest.TheVariants.Unsound = UndoSound state undo → ⊥
+abbrev pub LatestSays : State → List (List ℤ) → Result Record Unsound → Type 0
+LatestSays state undo (Ok latest) = LatestIs state undo latest.corner latest.place
+LatestSays state undo (Err _) = UndoSound state undo → ⊥

@@ -2,49 +2,27 @@
 #![tactic(auto)]
 
 ghost use Rattle.std.specs.Prelude.{◌≡◌, List, ℕ, ◌<◌};
-ghost use Rattle.model.specs.declared.Answer.TheVariants.{Refused};
 ghost use Rattle.model.specs.declared.Call.TheVariants.{Move, Undo};
 ghost use Rattle.model.specs.Prepared.{prepared_of};
 ghost use Rattle.model.specs.Steps.{at_depth, Step};
+ghost use Rattle.corrections.specs.Corrected.{answered, state_after};
 ghost use Rattle.corrections.specs.TakingBack.{TakenBack};
 
 mod records;
 
 use geom::Point;
-use model::{Answer, Early, move_early, undo_early};
-use placing::{Correction, correct};
-use records::{Latest, latest_record, put_record};
+use model::{move_early, undo_early};
+use placing::correct;
+use records::{latest_record, put_record};
 use rules::{Refusal, State};
-
-/// What a correction answers, and the state that goes with the tables from now on.
-#[derive(Clone, Copy)]
-pub struct Corrected {
-    pub answer: Answer,
-    pub state: State,
-}
 
 // The state with another number of undo records.
 fn at_depth(state: State, depth: usize) -> State
     ensures { result ≡ at_depth state depth }
 {
-    let kind = state.kind;
     State {
-        kind: kind,
-        out_of_range: state.out_of_range,
-        corners: state.corners,
-        rings: state.rings,
-        polygons: state.polygons,
         undo_depth: depth,
-    }
-}
-
-// A refusal, which leaves the state as it was.
-fn refused(state: State, refusal: Refusal) -> Corrected
-    ensures { result ≡ record { answer = Refused refusal; state = state } }
-{
-    Corrected {
-        answer: Answer::Refused(refusal),
-        state: state,
+        ..state
     }
 }
 
@@ -70,37 +48,23 @@ pub fn move_corner(
     undo: &mut [[i64; 3]],
     corner: usize,
     place: Point,
-) -> Corrected
-    ensures { (polygons : List ℕ) → Step (Move corner place) (prepared_of state corners.old rings.now polygons boxes.old parts.now edges.now undo.old) result.answer (prepared_of result.state corners.new rings.now polygons boxes.new parts.now edges.now undo.new) }
+) -> Result<State, Refusal>
+    ensures { (polygons : List ℕ) → Step (Move corner place) (prepared_of state corners.old rings.now polygons boxes.old parts.now edges.now undo.old) (answered result) (prepared_of (state_after state result) corners.new rings.now polygons boxes.new parts.now edges.now undo.new) }
 {
-    match move_early(state, undo.len(), corner, place) {
-        Early::Settled(answer) => Corrected {
-            answer: answer,
-            state: state,
-        },
-        Early::Open => {
-            match correct(
-                corners,
-                rings,
-                boxes,
-                parts,
-                edges,
-                state.corners,
-                state.rings,
-                corner,
-                place,
-            ) {
-                Correction::Unsound => refused(state, Refusal::Unsound),
-                Correction::Made(old) => {
-                    put_record(undo, state.undo_depth, corner, old);
-                    Corrected {
-                        answer: Answer::Accepted,
-                        state: at_depth(state, state.undo_depth + 1),
-                    }
-                }
-            }
-        }
-    }
+    move_early(state, undo.len(), corner, place)?;
+    let old = correct(
+        corners,
+        rings,
+        boxes,
+        parts,
+        edges,
+        state.corners,
+        state.rings,
+        corner,
+        place,
+    );
+    put_record(undo, state.undo_depth, corner, old?);
+    Ok(at_depth(state, state.undo_depth + 1))
 }
 
 // Puts a corner back at its place, with one undo record fewer.
@@ -113,11 +77,11 @@ fn take_back(
     edges: &[usize],
     corner: usize,
     place: Point,
-) -> Corrected
+) -> Result<State, Refusal>
     requires { 0 < state.undo_depth }
     ensures { TakenBack state rings.now parts.now edges.now corner place corners.old boxes.old corners.new boxes.new result }
 {
-    match correct(
+    correct(
         corners,
         rings,
         boxes,
@@ -127,13 +91,8 @@ fn take_back(
         state.rings,
         corner,
         place,
-    ) {
-        Correction::Unsound => refused(state, Refusal::Unsound),
-        Correction::Made(_) => Corrected {
-            answer: Answer::Accepted,
-            state: at_depth(state, state.undo_depth - 1),
-        },
-    }
+    )?;
+    Ok(at_depth(state, state.undo_depth - 1))
 }
 
 /// Takes back the latest record: its corner takes that place again, and the record's space serves again.
@@ -149,19 +108,19 @@ pub fn undo(
     parts: &[[usize; 3]],
     edges: &[usize],
     undo: &[[i64; 3]],
-) -> Corrected
-    ensures { (polygons : List ℕ) → Step Undo (prepared_of state corners.old rings.now polygons boxes.old parts.now edges.now undo.now) result.answer (prepared_of result.state corners.new rings.now polygons boxes.new parts.now edges.now undo.now) }
+) -> Result<State, Refusal>
+    ensures { (polygons : List ℕ) → Step Undo (prepared_of state corners.old rings.now polygons boxes.old parts.now edges.now undo.now) (answered result) (prepared_of (state_after state result) corners.new rings.now polygons boxes.new parts.now edges.now undo.now) }
 {
-    match undo_early(state) {
-        Early::Settled(answer) => Corrected {
-            answer: answer,
-            state: state,
-        },
-        Early::Open => match latest_record(state, undo) {
-            Latest::Unsound => refused(state, Refusal::Unsound),
-            Latest::At(corner, place) => {
-                take_back(state, corners, rings, boxes, parts, edges, corner, place)
-            }
-        },
-    }
+    undo_early(state)?;
+    let latest = latest_record(state, undo)?;
+    take_back(
+        state,
+        corners,
+        rings,
+        boxes,
+        parts,
+        edges,
+        latest.corner,
+        latest.place,
+    )
 }

@@ -5,15 +5,13 @@ ghost use Rattle.corrections.specs.Records.{LatestSays};
 
 use geom::Point;
 use model::corner_named;
-use rules::State;
+use rules::{State, Unsound};
 
-/// The latest undo record.
+/// An undo record: a corner, one of the plan's, and its old place, in range.
 #[derive(Clone, Copy)]
-pub(crate) enum Latest {
-    /// Its corner, one of the plan's, and its place, in range.
-    At(usize, Point),
-    /// 15: the undo table is shorter than the state says, or the record names no corner or no place in range.
-    Unsound,
+pub(crate) struct Record {
+    pub corner: usize,
+    pub place: Point,
 }
 
 /// Puts a record of corner i and its old place at row k.
@@ -21,9 +19,7 @@ pub(crate) fn put_record(undo: &mut [[i64; 3]], k: usize, i: usize, old: Point)
     requires { (k < length undo.old) × (i < 2 ^ 63) }
     ensures { undo.new ≡ set undo.old k (undo_row (record { corner = i; place = old })) }
 {
-    let x = old.x;
-    let y = old.y;
-    undo[k] = [i as i64, x, y];
+    undo[k] = [i as i64, old.x, old.y];
 }
 
 // The corner that row k names.
@@ -39,26 +35,23 @@ fn place_in(undo: &[[i64; 3]], k: usize) -> Point
     requires { k < length undo.now }
     ensures { result ≡ (entry_in (get_or undo.now k [])).place }
 {
-    let x = undo[k][1];
-    let y = undo[k][2];
-    Point { x: x, y: y }
+    let [_, x, y] = undo[k];
+    Point { x, y }
 }
 
-/// The latest record of a plan with something to undo.
-pub(crate) fn latest_record(state: State, undo: &[[i64; 3]]) -> Latest
+/// The latest record of a plan with something to undo. Refused with 15 (`Unsound`) where the undo table is shorter than the state says, or
+/// the record names no corner or no place in range.
+pub(crate) fn latest_record(state: State, undo: &[[i64; 3]]) -> Result<Record, Unsound>
     requires { 0 < state.undo_depth }
     ensures { LatestSays state undo.now result }
 {
     if undo.len() < state.undo_depth {
-        return Latest::Unsound;
+        return Err(Unsound);
     }
-    let i = corner_in(undo, state.undo_depth - 1);
+    let corner = corner_in(undo, state.undo_depth - 1);
     let place = place_in(undo, state.undo_depth - 1);
-    if state.corners <= i {
-        return Latest::Unsound;
+    if state.corners <= corner || !place.in_range() {
+        return Err(Unsound);
     }
-    if !place.in_range() {
-        return Latest::Unsound;
-    }
-    Latest::At(i, place)
+    Ok(Record { corner, place })
 }

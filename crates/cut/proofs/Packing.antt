@@ -5,15 +5,13 @@ use mathlib.Core.List.{List, [], ◌∷◌}
 use Prim.Native.Nat.{ℕ, ◌+◌, ◌/◌, ◌^◌, ◌≤◌, ◌<◌}
 use native.Mathlib.Decide.{ℕ_discrete, dec_lt}
 use native.Mathlib.Omega.{arith}
-use lib.IntN.{ℤ, pos, nat_abs, ◌+ℤ◌, ◌-ℤ◌}
+use lib.IntN.{ℤ, pos, nat_abs, ◌+ℤ◌}
 use lib.ListN.{length, get_or, set, length-set}
 use lib.Seq.{get_or-set_same, get_or-set_other, ext_get_or}
 use lib.Signed.{◌≤ℤ◌}
 use mir.Syntax.{w64}
 use mir.Val.{SFits}
 use Rattle.integers.proofs.Bits.{rd, abs_fits, fit₁, val₁}
-use Rattle.integers.proofs.NoWrap.{need, result}
-use Rattle.integers.proofs.Polynomials.{var, ◌:+◌, ◌:-◌}
 use Rattle.integers.proofs.Order.{zarith, add_parts, abs_parts, thin}
 use Rattle.integers.proofs.Sizes.{Within, abs_add}
 use Rattle.geom.specs.declared.Rect.{Rect}
@@ -32,18 +30,6 @@ use Rattle.cut.proofs.Shuffles.{shuffled_each, length_swapped, swapped_first, sw
 module _ (a b : ℤ) (ha : nat_abs a ≤ 2 ^ 40) (hb : nat_abs b ≤ 2 ^ 40) where
   bounds : Within (a ∷ b ∷ []) (2 ^ 40 ∷ 2 ^ 40 ∷ [])
   bounds = (ha, (hb, tt))
-
-  pub sum_fits : SFits w64 (rd a +ℤ rd b)
-  sum_fits = need w64 (a ∷ b ∷ []) (2 ^ 40 ∷ 2 ^ 40 ∷ []) bounds (var 0 :+ var 1) tt
-
-  pub sum_is : rd (rd a +ℤ rd b) ≡ a +ℤ b
-  sum_is = result w64 (a ∷ b ∷ []) (2 ^ 40 ∷ 2 ^ 40 ∷ []) bounds (var 0 :+ var 1) tt
-
-  pub gap_fits : SFits w64 (rd a -ℤ rd b)
-  gap_fits = need w64 (a ∷ b ∷ []) (2 ^ 40 ∷ 2 ^ 40 ∷ []) bounds (var 0 :- var 1) tt
-
-  pub gap_is : rd (rd a -ℤ rd b) ≡ a -ℤ b
-  gap_is = result w64 (a ∷ b ∷ []) (2 ^ 40 ∷ 2 ^ 40 ∷ []) bounds (var 0 :- var 1) tt
 
 -- ---- keys and packed numbers
 

@@ -125,13 +125,6 @@ module _ (lo m hi : ℕ) (xs : List ℕ) where
     selected_one h = parts a (λ k l u. omega (arith, at_most k l (omega arith))) (λ k l u. at_least k (omega arith) u)
 
 -- ---- the least and the greatest so far
-pub spans_one : (xs : List ℕ) (lo : ℕ) → Spans xs lo (lo + 1) (get_or xs lo 0) (get_or xs lo 0)
-spans_one xs lo = record {
-  from = λ k l u. let e : k ≡ lo = omega arith in rw e (omega arith);
-  to = λ k l u. let e : k ≡ lo = omega arith in rw e (omega arith);
-  least_among = (lo, omega arith, omega arith, refl);
-  greatest_among = (lo, omega arith, omega arith, refl);
-}
 
 pub spans_more : (xs : List ℕ) (lo i a b a' b' : ℕ) → lo ≤ i → Spans xs lo i a b → Wider a b (get_or xs i 0) a' b' → Spans xs lo (i + 1) a' b'
 spans_more xs lo i a b a' b' l S W =

@@ -6,10 +6,13 @@ ghost use Rattle.boxes.specs.Boxes.{Names, NearRect};
 ghost use Rattle.cut.specs.Keys.{axis_of, key_of, packed_of, number_of, packed_edge, Mapped, CutPart};
 
 use boxes::{edge_box, ring_near};
-use geom::Rect;
+use geom::{MAX_DOUBLED, Rect};
+
+// How many edge numbers there are: 2^20.
+const NUMBERS: usize = 1 << 20;
 
 /// The axis along which a part is cut.
-#[derive(Clone, Copy)]
+#[derive(Clone, Copy, PartialEq, Eq)]
 pub enum Axis {
     /// Left and right parts, by x.
     X,
@@ -23,9 +26,10 @@ pub fn axis_of(b: Rect) -> Axis
     ensures { result ≡ axis_of b }
 {
     if b.max.y - b.min.y <= b.max.x - b.min.x {
-        return Axis::X;
+        Axis::X
+    } else {
+        Axis::Y
     }
-    Axis::Y
 }
 
 // The cutting key of an edge with this box: its least plus its greatest coordinate on the axis.
@@ -44,7 +48,7 @@ fn packed(key: i64, e: usize) -> usize
     requires { (nat_abs key ≤ 2 ^ 41) × (e < 2 ^ 20) }
     ensures { result ≡ packed_of key e }
 {
-    (key + 2199023255552) as usize * 1048576 + e
+    (key + MAX_DOUBLED) as usize * NUMBERS + e
 }
 
 /// Puts packed numbers in the place of the edges of a part: until they are unpacked, the part holds these and no edge numbers.
@@ -63,15 +67,12 @@ pub fn pack(
     requires names { Names n edges.old first size }
     ensures { Mapped (packed_edge corners.now rings.now axis) first (first + size) edges.old edges.new }
 {
-    let end = first + size;
     let mut ring: usize = 0;
-    let mut i = first;
-    while i < end {
+    for i in first..first + size {
         let e = edges[i];
         ring = ring_near(rings, count, e, ring);
         let b = edge_box(corners, rings, n, count, ring, e);
         edges[i] = packed(key_of(axis, b), e);
-        i += 1;
     }
 }
 
@@ -80,11 +81,8 @@ fn unpack(edges: &mut [usize], first: usize, size: usize)
     requires { first + size ≤ length edges.old }
     ensures { Mapped number_of first (first + size) edges.old edges.new }
 {
-    let end = first + size;
-    let mut i = first;
-    while i < end {
-        edges[i] = edges[i] % 1048576;
-        i += 1;
+    for i in first..first + size {
+        edges[i] %= NUMBERS;
     }
 }
 

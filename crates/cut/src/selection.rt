@@ -4,14 +4,13 @@ ghost use Rattle.std.specs.Prelude.{◌≡◌, ◌<◌, ◌≤◌, length};
 ghost use Rattle.cut.specs.Shuffle.{swapped};
 ghost use Rattle.cut.specs.Selection.{Wider, SpansRead, PartedRead, Selected};
 
-// Exchanges what stands at i and at j.
+// Exchanges what stands at i and at j. The library's `swap` tests which of the places comes first; this one has no branch.
 fn swap(values: &mut [usize], i: usize, j: usize)
     requires { (i < length values.old) × (j < length values.old) }
     ensures { values.new ≡ swapped i j values.old }
 {
     let x = values[i];
-    let y = values[j];
-    values[i] = y;
+    values[i] = values[j];
     values[j] = x;
 }
 
@@ -27,19 +26,10 @@ fn wider(span: Span, x: usize) -> Span
     requires { span.least ≤ span.greatest }
     ensures { Wider span.least span.greatest x result.least result.greatest }
 {
-    if x < span.least {
-        return Span {
-            least: x,
-            greatest: span.greatest,
-        };
+    Span {
+        least: span.least.min(x),
+        greatest: span.greatest.max(x),
     }
-    if span.greatest < x {
-        return Span {
-            least: span.least,
-            greatest: x,
-        };
-    }
-    span
 }
 
 // The span of a part, and how many numbers were compared to find it.
@@ -60,16 +50,11 @@ fn span_of(values: &[usize], lo: usize, hi: usize) -> Scan
         greatest: x,
     };
     let mut seen: usize = 1;
-    let mut i = lo + 1;
-    while i < hi {
+    for i in lo + 1..hi {
         span = wider(span, values[i]);
         seen += 1;
-        i += 1;
     }
-    Scan {
-        span: span,
-        reads: seen,
-    }
+    Scan { span, reads: seen }
 }
 
 // Where a partition came to an end, and how many numbers it compared.
@@ -88,22 +73,17 @@ fn partition(values: &mut [usize], lo: usize, hi: usize, v: usize) -> Split
     requires { (lo ≤ hi) × (hi ≤ length values.old) }
     ensures { PartedRead lo hi v values.old values.new result.place result.reads }
 {
-    let mut s = lo;
+    let mut place = lo;
     let mut reads: usize = 0;
-    let mut i = lo;
-    while i < hi {
+    for i in lo..hi {
         reads += 1;
         let x = values[i];
-        swap(values, s, i);
+        swap(values, place, i);
         if x <= v {
-            s += 1;
+            place += 1;
         }
-        i += 1;
     }
-    Split {
-        place: s,
-        reads: reads,
-    }
+    Split { place, reads }
 }
 
 /// Reorders [lo, hi) so that no number before `middle` exceeds one from `middle` on, and returns how many keys it compared, as its
@@ -120,24 +100,17 @@ pub fn select(values: &mut [usize], lo: usize, middle: usize, hi: usize) -> usiz
     let mut b = scan.span.greatest;
     let mut reads = scan.reads;
     for _ in 0usize..64 {
-        if middle <= p {
-            return reads;
-        }
-        if q <= middle {
-            return reads;
-        }
-        if b <= a {
+        if middle <= p || q <= middle || b <= a {
             return reads;
         }
         let v = a + (b - a) / 2;
         let split = partition(values, p, q, v);
-        let s = split.place;
         reads += split.reads;
-        if middle <= s {
-            q = s;
+        if middle <= split.place {
+            q = split.place;
             b = v;
         } else {
-            p = s;
+            p = split.place;
             a = v + 1;
         }
     }

@@ -9,8 +9,8 @@ ghost use Rattle.answers.specs.Answers.{answered};
 
 mod input;
 
-use answers::{MAX_INPUT, Outcome, answer};
-use input::{Input, read_input};
+use answers::{MAX_INPUT, answer};
+use input::read_input;
 use std::io;
 use std::io::Write;
 use std::process::ExitCode;
@@ -23,7 +23,7 @@ fn reply<W: Write>(input: &[u8], target: &mut W) -> io::Result<()>
     ensures { OnOk result (Appends (W.contents target.old) (W.contents target.new) (answered input.now)) }
 {
     let mut output = [0u8; OUTPUT_ROOM];
-    let Outcome::Written(count) = answer(input, &mut output) else {
+    let Ok(count) = answer(input, &mut output) else {
         // No answer has more bytes than there is room for.
         return Ok(());
     };
@@ -40,11 +40,11 @@ fn main(rt: HostRuntime) -> ExitCode {
     // One byte more than an input may have, so that a longer one is seen to be too long.
     let mut input = [0u8; MAX_INPUT + 1];
     match read_input(&mut rt.stdin(), &mut input) {
-        Input::Read(count) => match reply(&input[..count], &mut rt.stdout()) {
+        Ok(count) => match reply(&input[..count], &mut rt.stdout()) {
             Ok(()) => ExitCode::SUCCESS,
             Err(error) => fail(&rt, "standard output", error),
         },
         // A part of an input is not answered.
-        Input::Failed(error) => fail(&rt, "standard input", error),
+        Err(error) => fail(&rt, "standard input", error),
     }
 }

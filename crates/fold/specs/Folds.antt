@@ -1,5 +1,5 @@
 -- The rules of item 4 as a fold over the rings met, by rising ring number: a ring not met is one that the point is outside of.
-use Rattle.std.specs.Prelude.{◌≡◌, false, cond, ◌||◌, List, ℕ, zero, suc, ◌+◌, ◌-◌, ◌≤◌, ◌<◌, eqb, get_or}
+use Rattle.std.specs.Prelude.{◌≡◌, false, cond, ◌||◌, Option, Some, None, List, ℕ, zero, suc, ◌+◌, ◌-◌, ◌≤◌, ◌<◌, eqb, get_or}
 use Rattle.rules.specs.declared.Kind.{Kind}
 use Rattle.rules.specs.declared.Kind.TheVariants.{Polygons, Tree}
 use Rattle.rules.specs.declared.Location.{Location}
@@ -9,7 +9,6 @@ use Rattle.rings.specs.Places.{is_boundary, flipped_by}
 use Rattle.boxes.specs.Rings.{start_of, RingAt, RingEnds}
 use Rattle.fold.specs.declared.Fold.{Fold}
 use Rattle.fold.specs.declared.Span.{Span}
-use Rattle.fold.specs.declared.Span.TheVariants.{Nowhere, Rings}
 use Rattle.fold.specs.Regions.{polygon_place, list_place, touched, odd_inside, tree_place}
 
 -- ---- a fold's value
@@ -48,9 +47,9 @@ pub record Spans (ends : List ℕ) (count ring start end : ℕ) : Type 0 where
   pub from : start ≡ start_of ends polygon
   pub to : end ≡ get_or ends polygon 0
 
-abbrev pub SpanSays : List ℕ → ℕ → ℕ → Span → Type 0
-SpanSays ends count ring Nowhere = (n : ℕ) → RingEnds n count ends → ring < n → ⊥
-SpanSays ends count ring (Rings start end) = Spans ends count ring start end
+abbrev pub SpanSays : List ℕ → ℕ → ℕ → Option Span → Type 0
+SpanSays ends count ring None = (n : ℕ) → RingEnds n count ends → ring < n → ⊥
+SpanSays ends count ring (Some span) = Spans ends count ring span.start span.end
 
 -- ---- how a fold stands before ring r
 

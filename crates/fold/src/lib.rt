@@ -27,13 +27,11 @@ pub struct Fold {
     pub on: bool,
 }
 
-// The rings of a polygon.
+// The rings of a polygon: from `start` to before `end`.
 #[derive(Clone, Copy)]
-pub(crate) enum Span {
-    // the polygon table does not fit
-    Nowhere,
-    // from this ring to before that one
-    Rings(usize, usize),
+pub(crate) struct Span {
+    pub start: usize,
+    pub end: usize,
 }
 
 /// Before the first ring.
@@ -49,22 +47,19 @@ pub fn begin() -> Fold
     }
 }
 
-// The rings of the polygon that a ring is of, by bisection in the ends of the first `count` polygons. Whatever the table holds, no
-// entry is read that it does not have.
-fn span_of(polygons: &[usize], count: usize, ring: usize) -> Span
+// The rings of the polygon that a ring is of, by bisection in the ends of the first `count` polygons; none only where the table does not
+// fit. Whatever the table holds, no entry is read that it does not have.
+fn span_of(polygons: &[usize], count: usize, ring: usize) -> Option<Span>
     ensures { SpanSays polygons.now count ring result }
 {
-    if polygons.len() < count {
-        return Span::Nowhere;
-    }
-    if count == 0 {
-        return Span::Nowhere;
-    }
-    if polygons[count - 1] <= ring {
-        return Span::Nowhere;
+    if polygons.len() < count || count == 0 || polygons[count - 1] <= ring {
+        return None;
     }
     let polygon = ring_of(polygons, count, ring);
-    Span::Rings(start_of(polygons, polygon), polygons[polygon])
+    Some(Span {
+        start: start_of(polygons, polygon),
+        end: polygons[polygon],
+    })
 }
 
 // A polygon's place with one more hole: the hole decides only if no ring before it did.
@@ -72,9 +67,8 @@ fn after_hole(current: Location, hole: Location) -> Location
     ensures { result ≡ within_outer current (by_hole hole Inside) }
 {
     match current {
-        Location::Outside => Location::Outside,
         Location::Inside => through_hole(hole),
-        Location::OnBoundary => Location::OnBoundary,
+        Location::Outside | Location::OnBoundary => current,
     }
 }
 
@@ -82,14 +76,9 @@ fn after_hole(current: Location, hole: Location) -> Location
 fn with_hole(fold: Fold, place: Location) -> Fold
     ensures { result ≡ with_hole fold place }
 {
-    let best = fold.best;
-    let current = fold.current;
     Fold {
-        best,
-        current: after_hole(current, place),
-        end: fold.end,
-        odd: fold.odd,
-        on: fold.on,
+        current: after_hole(fold.current, place),
+        ..fold
     }
 }
 
@@ -98,9 +87,10 @@ fn first_met(ring: usize, start: usize, place: Location) -> Location
     ensures { result ≡ first_met ring start place }
 {
     if ring == start {
-        return place;
+        place
+    } else {
+        Location::Outside
     }
-    Location::Outside
 }
 
 // The current polygon is done, and another one is opened by the first of its rings that is met.
@@ -111,8 +101,7 @@ fn open_polygon(fold: Fold, start: usize, end: usize, ring: usize, place: Locati
         best: list_place(fold),
         current: first_met(ring, start, place),
         end,
-        odd: fold.odd,
-        on: fold.on,
+        ..fold
     }
 }
 
@@ -126,20 +115,21 @@ fn fold_list(polygons: &[usize], count: usize, fold: Fold, ring: usize, place: L
     if ring < fold.end {
         return with_hole(fold, place);
     }
-    match span_of(polygons, count, ring) {
-        Span::Nowhere => fold,
-        Span::Rings(start, end) => open_polygon(fold, start, end, ring, place),
-    }
+    let Some(Span { start, end }) = span_of(polygons, count, ring) else {
+        return fold;
+    };
+    open_polygon(fold, start, end, ring, place)
 }
 
 // One more ring of a tree.
 fn fold_tree(fold: Fold, place: Location) -> Fold
     ensures { result ≡ with_ring fold place }
 {
-    let mut next = fold;
-    next.odd = flipped(fold.odd, place);
-    next.on = fold.on | is_boundary(place);
-    next
+    Fold {
+        odd: flipped(fold.odd, place),
+        on: fold.on | is_boundary(place),
+        ..fold
+    }
 }
 
 /// One more ring, of a higher number than those before it, with the point's place in it. The polygon table of a list holds where the
@@ -165,9 +155,7 @@ pub fn fold_ring(
 fn list_place(fold: Fold) -> Location
     ensures { result ≡ place_of Polygons fold }
 {
-    let best = fold.best;
-    let current = fold.current;
-    stronger(best, current)
+    stronger(fold.best, fold.current)
 }
 
 // Any boundary is the boundary; otherwise inside an odd number of rings is inside.
@@ -175,9 +163,10 @@ fn tree_place(fold: Fold) -> Location
     ensures { result ≡ place_of Tree fold }
 {
     if fold.on {
-        return Location::OnBoundary;
+        Location::OnBoundary
+    } else {
+        odd_place(fold.odd)
     }
-    odd_place(fold.odd)
 }
 
 /// Where the point lies if no further ring is met.

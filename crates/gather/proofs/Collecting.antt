@@ -1,6 +1,7 @@
 -- A walk that counts its edges, on sound tables: from the start through the steps to the end. Assumes nothing.
-use mathlib.Core.Path.{◌≡◌, refl, sym, ap, subst}
+use mathlib.Core.Path.{◌≡◌, refl, sym, ap, ap₂, ◌∙◌, subst}
 use mathlib.Core.Bool.{cond, ◌&&◌, ◌||◌}
+use Rattle.std.specs.Prelude.{Err}
 use mathlib.Core.List.{List, [], ◌∷◌}
 use Prim.Native.Nat.{ℕ, suc, ◌+◌, ◌≤◌, ◌<◌}
 use native.Mathlib.Numerals.{add-one}
@@ -10,8 +11,11 @@ use lib.IntN.{ℤ, pos, ◌+ℤ◌}
 use lib.ListN.{length, get_or}
 use Rattle.geom.specs.declared.Point.{Point}
 use Rattle.rules.specs.declared.Ray.{Ray}
+use Rattle.rules.specs.Edges.{Edge}
 use Rattle.rules.specs.Lists.{sum_of, any_of}
+use Rattle.rings.specs.declared.crossings.Crossing.{Crossing}
 use Rattle.rings.specs.Crossings.{is_on, weight_of}
+use Rattle.rings.specs.Half.{near_doubled}
 use Rattle.walk.specs.declared.Cursor.{Cursor}
 use Rattle.walk.specs.declared.Query.{Query}
 use Rattle.walk.specs.Steps.{Begun, Walking, InHand, Never, Ends, at_place}
@@ -19,13 +23,35 @@ use Rattle.boxes.specs.Rings.{in_ring, RingEnds}
 use Rattle.index.proofs.Soundness.{edge_in}
 use Rattle.walk.specs.Walks.{Yielded, Walked}
 use Rattle.walk.specs.Walks.Yielded.{edge}
-use Rattle.walk.specs.Edges.{EdgeSound}
+use Rattle.walk.specs.declared.edges.Edge as Found
+use Rattle.walk.specs.Edges.{EdgeSound, EdgeFound}
+use Rattle.rays.specs.Along.{crossing_along}
+use Rattle.rays.specs.Numbered.{crossing_at, half_crossing_at}
+use Rattle.rays.proofs.PlanAlong.{crossing_is, half_crossing_is}
 use Rattle.walk.proofs.Sums.{ring_told}
 use Rattle.walk.proofs.Standing.{walking_at}
 use Rattle.walk.proofs.Walked.{length_most, over_to, begun, ended}
 use Rattle.gather.specs.declared.tally.Layout.{Layout}
-use Rattle.gather.specs.Tallies.{winding_in, on_in, Tallied}
-use Rattle.gather.specs.Collections.{WalkedSound, NotedTo, ToldTo, NotedAll, ToldAll}
+use Rattle.gather.specs.declared.collect.Stopped.{Stopped}
+use Rattle.gather.specs.declared.collect.Stopped.TheVariants.{TooMany, Unsound}
+use Rattle.gather.specs.Tallies.{winding_in, on_in, is_listed, Tallied}
+use Rattle.gather.specs.Collections.{WalkedSound, MetFound, NotedTo, ToldTo, NotedAll, LeafNoted, ToldAll, CollectSays}
+
+-- ---- how an edge counts that was found, in the grid and in the half-grid
+module _ (n count : ℕ) (corners : List ℤ) (rings : List ℕ) (ray : Ray) (p : Point) (e : ℕ) (edge : Found.Edge) (F : EdgeFound n count corners rings e edge) (crossing : Crossing) where
+  pub met_found : crossing ≡ crossing_along ray edge.from edge.to p → MetFound n count rings (crossing_at n corners rings ray p) e edge.ring crossing
+  met_found q = record {
+    holds = F.holds;
+    crossing_is = λ R. q ∙ (λ i. crossing_along ray (F.edge_is R i).0 (F.edge_is R i).1 p) ∙ sym (crossing_is n corners rings ray p e F.one);
+  }
+
+  pub half_met_found : (a b : Point) → a ≡ near_doubled edge.from → b ≡ near_doubled edge.to → crossing ≡ crossing_along ray a b p → MetFound n count rings (half_crossing_at n corners rings ray p) e edge.ring crossing
+  half_met_found a b start stop q = record {
+    holds = F.holds;
+    crossing_is = λ R.
+        q ∙ ap₂ (λ x y. crossing_along ray x y p) (start ∙ ap (λ (s : Edge). near_doubled s.0) (F.edge_is R)) (stop ∙ ap (λ (s : Edge). near_doubled s.1) (F.edge_is R))
+        ∙ sym (half_crossing_is n corners rings ray p e F.one);
+  }
 
 -- ---- an edge more
 module _ (n count : ℕ) (corners : List ℤ) (rings edges : List ℕ) (ends : RingEnds n count rings) (few : n ≤ 1048576) (ray : Ray) (query : Query) (p : Point) where
@@ -94,3 +120,10 @@ module _ (n count : ℕ) (corners : List ℤ) (rings : List ℕ) (boxes : List (
   -- the edges of a leaf are edges of the plan
   pub leaf_sound_lem : (at to : ℕ) → to ≤ n → (((k : ℕ) → at ≤ k → k < to → EdgeSound n count corners rings (get_or edges k 0)) → ⊥) → ⊥
   leaf_sound_lem at to h f = f (λ k l u. record { one = edge_in n corners rings boxes parts edges S.walk.index k (omega arith); reach = S.reach; ends = S.ends })
+
+-- a leaf that stops the walk: only a list can be full, and no sound tables get 15
+pub leaf_stopped : (n count : ℕ) (corners : List ℤ) (rings : List ℕ) (boxes : List (List ℤ)) (parts : List (List ℕ)) (edges : List ℕ) (ray : Ray) (query : Query) (p : Point) (at to : ℕ) → to ≤ n
+    → (first layout : Layout) → is_listed layout ≡ is_listed first → (firsts listed : List ℕ) (first_slots slots : List ℤ) (listed' : List ℕ) (slots' : List ℤ) (stopped : Stopped)
+    → LeafNoted n count corners rings edges ray p at to layout listed slots listed' slots' (Err stopped) → CollectSays n count corners rings boxes parts edges ray query p first firsts first_slots listed' slots' (Err stopped)
+leaf_stopped n count corners rings boxes parts edges ray query p at to h first layout same firsts listed first_slots slots listed' slots' TooMany N = sym same ∙ N
+leaf_stopped n count corners rings boxes parts edges ray query p at to h first layout same firsts listed first_slots slots listed' slots' Unsound N = λ S T. leaf_sound_lem n count corners rings boxes parts edges S ray query p at to h N

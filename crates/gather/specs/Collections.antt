@@ -1,5 +1,5 @@
 -- One walk along a ray, its edges counted ring by ring (document 01, items 3, 6 and 9, refusal 15).
-use Rattle.std.specs.Prelude.{◌≡◌, true, cond, ◌&&◌, List, [], ℕ, ◌*◌, ◌≤◌, ◌<◌, ℤ, pos, length, get_or}
+use Rattle.std.specs.Prelude.{◌≡◌, true, cond, ◌&&◌, List, [], ℕ, ◌*◌, ◌≤◌, ◌<◌, ℤ, pos, length, get_or, Result, Ok, Err}
 use Rattle.geom.specs.declared.Point.{Point}
 use Rattle.rules.specs.declared.Ray.{Ray}
 use Rattle.rules.specs.Lists.{sum_of, any_of}
@@ -12,15 +12,9 @@ use Rattle.walk.specs.Steps.{WalkSound}
 use Rattle.walk.specs.Walks.{Yielded}
 use Rattle.walk.specs.Edges.{EdgeSound}
 use Rattle.gather.specs.declared.tally.Layout.{Layout}
-use Rattle.gather.specs.declared.collect.Met.{Met}
-use Rattle.gather.specs.declared.collect.Met as Met
-use Rattle.gather.specs.declared.collect.Met.TheVariants.{At}
 use Rattle.gather.specs.declared.collect.Noted.{Noted}
-use Rattle.gather.specs.declared.collect.Noted as Noted
-use Rattle.gather.specs.declared.collect.Noted.TheVariants.{To, Full}
-use Rattle.gather.specs.declared.collect.Collected.{Collected}
-use Rattle.gather.specs.declared.collect.Collected as Collected
-use Rattle.gather.specs.declared.collect.Collected.TheVariants.{Whole, TooMany}
+use Rattle.gather.specs.declared.collect.Stopped.{Stopped}
+use Rattle.gather.specs.declared.collect.Stopped.TheVariants.{TooMany, Unsound}
 use Rattle.gather.specs.Tallies as T
 use Rattle.gather.specs.Tallies.{winding_in, on_in, is_listed, Room, Tallied, Counts}
 
@@ -35,20 +29,16 @@ pub record MetFound (n count : ℕ) (rings : List ℕ) (crossings : ℕ → Cros
   pub holds : RingAt rings count e ring
   pub crossing_is : RingEnds n count rings → crossing ≡ crossings e
 
-abbrev pub MetSays : ℕ → ℕ → List ℤ → List ℕ → (ℕ → Crossing) → ℕ → Met → Type 0
-MetSays n count corners rings crossings e (At ring crossing) = MetFound n count rings crossings e ring crossing
-MetSays n count corners rings crossings e Met.TheVariants.Unsound = EdgeSound n count corners rings e → ⊥
-
 -- it is counted in the slot of its ring
 pub record NotedTo (n count : ℕ) (corners : List ℤ) (rings : List ℕ) (ray : Ray) (p : Point) (e : ℕ) (layout : Layout) (listed : List ℕ) (slots : List ℤ) (listed' : List ℕ) (slots' : List ℤ) (layout' : Layout) (ring : ℕ) : Type 0 where
   pub crossing : Crossing
   pub found : MetFound n count rings (crossing_at n corners rings ray p) e ring crossing
   pub counts : Counts layout listed slots ring crossing layout' listed' slots'
 
-abbrev pub NoteSays : ℕ → ℕ → List ℤ → List ℕ → Ray → Point → ℕ → Layout → List ℕ → List ℤ → List ℕ → List ℤ → Noted → Type 0
-NoteSays n count corners rings ray p e layout listed slots listed' slots' (To layout' ring) = NotedTo n count corners rings ray p e layout listed slots listed' slots' layout' ring
-NoteSays n count corners rings ray p e layout listed slots listed' slots' Full = is_listed layout ≡ true
-NoteSays n count corners rings ray p e layout listed slots listed' slots' Noted.TheVariants.Unsound = EdgeSound n count corners rings e → ⊥
+abbrev pub NoteSays : ℕ → ℕ → List ℤ → List ℕ → Ray → Point → ℕ → Layout → List ℕ → List ℤ → List ℕ → List ℤ → Result Noted Stopped → Type 0
+NoteSays n count corners rings ray p e layout listed slots listed' slots' (Ok noted) = NotedTo n count corners rings ray p e layout listed slots listed' slots' noted.layout noted.ring
+NoteSays n count corners rings ray p e layout listed slots listed' slots' (Err TooMany) = is_listed layout ≡ true
+NoteSays n count corners rings ray p e layout listed slots listed' slots' (Err Unsound) = EdgeSound n count corners rings e → ⊥
 
 -- ---- a walk
 
@@ -72,10 +62,10 @@ pub record NotedAll (n count : ℕ) (corners : List ℤ) (rings edges : List ℕ
   pub same : is_listed layout' ≡ is_listed layout
   pub told : (query : Query) → n ≤ 1048576 → to ≤ n → RingEnds n count rings → ToldTo n count corners rings edges ray query p at layout listed slots → ToldTo n count corners rings edges ray query p to layout' listed' slots'
 
-abbrev pub LeafNoted : ℕ → ℕ → List ℤ → List ℕ → List ℕ → Ray → Point → ℕ → ℕ → Layout → List ℕ → List ℤ → List ℕ → List ℤ → Noted → Type 0
-LeafNoted n count corners rings edges ray p at to layout listed slots listed' slots' (To layout' ring) = NotedAll n count corners rings edges ray p at to layout listed slots listed' slots' layout'
-LeafNoted n count corners rings edges ray p at to layout listed slots listed' slots' Full = is_listed layout ≡ true
-LeafNoted n count corners rings edges ray p at to layout listed slots listed' slots' Noted.TheVariants.Unsound = ((k : ℕ) → at ≤ k → k < to → EdgeSound n count corners rings (get_or edges k 0)) → ⊥
+abbrev pub LeafNoted : ℕ → ℕ → List ℤ → List ℕ → List ℕ → Ray → Point → ℕ → ℕ → Layout → List ℕ → List ℤ → List ℕ → List ℤ → Result Noted Stopped → Type 0
+LeafNoted n count corners rings edges ray p at to layout listed slots listed' slots' (Ok noted) = NotedAll n count corners rings edges ray p at to layout listed slots listed' slots' noted.layout
+LeafNoted n count corners rings edges ray p at to layout listed slots listed' slots' (Err TooMany) = is_listed layout ≡ true
+LeafNoted n count corners rings edges ray p at to layout listed slots listed' slots' (Err Unsound) = ((k : ℕ) → at ≤ k → k < to → EdgeSound n count corners rings (get_or edges k 0)) → ⊥
 
 -- a whole walk: every place of the edge list is behind it
 pub record ToldAll (n count : ℕ) (corners : List ℤ) (rings edges : List ℕ) (ray : Ray) (query : Query) (p : Point) (layout : Layout) (listed : List ℕ) (slots : List ℤ) : Type 0 where
@@ -88,7 +78,7 @@ pub record Gathered (n count : ℕ) (corners : List ℤ) (rings : List ℕ) (box
   pub room : Room layout' (length listed') (length slots')
   pub told : WalkedSound n count corners rings boxes parts edges → Tallied count [] layout listed slots → ToldAll n count corners rings edges ray query p layout' listed' slots'
 
-abbrev pub CollectSays : ℕ → ℕ → List ℤ → List ℕ → List (List ℤ) → List (List ℕ) → List ℕ → Ray → Query → Point → Layout → List ℕ → List ℤ → List ℕ → List ℤ → Collected → Type 0
-CollectSays n count corners rings boxes parts edges ray query p layout listed slots listed' slots' (Whole layout') = Gathered n count corners rings boxes parts edges ray query p layout listed slots listed' slots' layout'
-CollectSays n count corners rings boxes parts edges ray query p layout listed slots listed' slots' TooMany = is_listed layout ≡ true
-CollectSays n count corners rings boxes parts edges ray query p layout listed slots listed' slots' Collected.TheVariants.Unsound = WalkedSound n count corners rings boxes parts edges → Tallied count [] layout listed slots → ⊥
+abbrev pub CollectSays : ℕ → ℕ → List ℤ → List ℕ → List (List ℤ) → List (List ℕ) → List ℕ → Ray → Query → Point → Layout → List ℕ → List ℤ → List ℕ → List ℤ → Result Layout Stopped → Type 0
+CollectSays n count corners rings boxes parts edges ray query p layout listed slots listed' slots' (Ok layout') = Gathered n count corners rings boxes parts edges ray query p layout listed slots listed' slots' layout'
+CollectSays n count corners rings boxes parts edges ray query p layout listed slots listed' slots' (Err TooMany) = is_listed layout ≡ true
+CollectSays n count corners rings boxes parts edges ray query p layout listed slots listed' slots' (Err Unsound) = WalkedSound n count corners rings boxes parts edges → Tallied count [] layout listed slots → ⊥

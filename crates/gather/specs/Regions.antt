@@ -1,13 +1,10 @@
 -- Where a point lies in a region, by one walk or two along a ray (document 01, items 4, 6 and 9, refusal 15).
-use Rattle.std.specs.Prelude.{◌≡◌, Bool, true, ◌⊎◌, List, ℕ, ◌*◌, ◌≤◌, ◌<◌, ℤ, pos, length, get_or}
+use Rattle.std.specs.Prelude.{◌≡◌, Bool, true, ◌⊎◌, List, ℕ, ◌*◌, ◌≤◌, ◌<◌, ℤ, pos, length, get_or, Result, Ok, Err}
 use Rattle.geom.specs.declared.Point.{Point}
 use Rattle.rules.specs.declared.Kind.{Kind}
 use Rattle.rules.specs.declared.Location.{Location}
 use Rattle.rules.specs.declared.Location.TheVariants.{Outside}
 use Rattle.rules.specs.declared.Refusal.TheVariants.{Unsound}
-use Rattle.rules.specs.declared.Reply.{Reply}
-use Rattle.rules.specs.declared.Reply as Reply
-use Rattle.rules.specs.declared.Reply.TheVariants.{Refused}
 use Rattle.rules.specs.declared.State.{State}
 use Rattle.rules.specs.Nodes.{node_count}
 use Rattle.rules.specs.Plans.{Plan, kind_reply}
@@ -17,11 +14,11 @@ use Rattle.fold.specs.Folds.{Fits}
 use Rattle.index.specs.Sound.{IndexSound}
 use Rattle.gather.specs.declared.tally.Layout.{Layout}
 use Rattle.gather.specs.declared.tally.Layout.TheVariants.{Listed, EachRing}
-use Rattle.gather.specs.declared.region.Region.{Region}
-use Rattle.gather.specs.declared.region.Region as Region
-use Rattle.gather.specs.declared.region.Region.TheVariants.{At, TooMany}
+use Rattle.gather.specs.declared.collect.Stopped.{Stopped}
+use Rattle.gather.specs.declared.collect.Stopped as Stopped
 use Rattle.gather.specs.Slots.{place_of}
 use Rattle.gather.specs.Tallies.{ring_at, size_of}
+use Rattle.rules.specs.Answering.{Reply}
 
 -- a list of rings reaches to place k
 abbrev pub Listable : Layout → ℕ → ℕ → Type 0
@@ -57,16 +54,15 @@ pub record LookSound (state : State) (corners : List ℤ) (rings polygons : List
   pub index : IndexSound state.corners corners rings boxes parts edges
 
 -- what one walk says: on sound tables this place, never 15, and more rings than a list holds only where there is a list
-abbrev pub RegionSays : Bool → Type 0 → Location → Region → Type 0
-RegionSays few sound place (At location) = sound → location ≡ place
-RegionSays few sound place TooMany = few ≡ true
-RegionSays few sound place Region.TheVariants.Unsound = sound → ⊥
+abbrev pub RegionSays : Bool → Type 0 → Location → Result Location Stopped → Type 0
+RegionSays few sound place (Ok location) = sound → location ≡ place
+RegionSays few sound place (Err Stopped.TheVariants.TooMany) = few ≡ true
+RegionSays few sound place (Err Stopped.TheVariants.Unsound) = sound → ⊥
 
 -- a region's place as a reply
-abbrev pub reply_of : Region → Reply
-reply_of (At location) = Reply.TheVariants.At location
-reply_of TooMany = Refused Unsound
-reply_of Region.TheVariants.Unsound = Refused Unsound
+abbrev pub reply_of : Result Location Stopped → Reply
+reply_of (Ok location) = Ok location
+reply_of (Err stopped) = Err Unsound
 
 -- item 4's reply for a plan of its kind
 abbrev pub region_reply : Plan → Point → Location
@@ -74,10 +70,10 @@ region_reply plan p = kind_reply plan.kind plan p
 
 -- a place, or 15
 abbrev pub Placed : Reply → Type 0
-Placed r = ((location : Location) × (r ≡ Reply.TheVariants.At location)) ⊎ (r ≡ Refused Unsound)
+Placed r = ((location : Location) × (r ≡ Ok location)) ⊎ (r ≡ Err Unsound)
 
 -- 15 where a table is too short; a place or 15 on any tables; and this place on sound ones
 pub record LookedUp (state : State) (corners : List ℤ) (rings polygons : List ℕ) (boxes : List (List ℤ)) (parts : List (List ℕ)) (edges : List ℕ) (place : Location) (r : Reply) : Type 0 where
-  pub short : (Enough state (length corners) (length rings) (length polygons) (length boxes) (length parts) (length edges) → ⊥) → r ≡ Refused Unsound
+  pub short : (Enough state (length corners) (length rings) (length polygons) (length boxes) (length parts) (length edges) → ⊥) → r ≡ Err Unsound
   pub placed : Placed r
-  pub exact : LookSound state corners rings polygons boxes parts edges → r ≡ Reply.TheVariants.At place
+  pub exact : LookSound state corners rings polygons boxes parts edges → r ≡ Ok place

@@ -1,13 +1,11 @@
 -- What slots say of the edges met, ring by ring (document 01, items 3 and 4).
-use Rattle.std.specs.Prelude.{◌≡◌, Bool, true, false, cond, ◌&&◌, List, ◌∷◌, ℕ, ◌+◌, ◌≤◌, ◌<◌, ◌^◌, eqb, ℤ, pos, length, get_or}
+use Rattle.std.specs.Prelude.{◌≡◌, Bool, true, false, cond, ◌&&◌, List, ◌∷◌, ℕ, ◌+◌, ◌≤◌, ◌<◌, ◌^◌, eqb, ℤ, pos, length, get_or, Option, Some, None}
 use Rattle.rules.specs.Lists.{sum_of, any_of}
 use Rattle.rings.specs.declared.crossings.Crossing.{Crossing}
 use Rattle.rings.specs.Crossings.{is_on, weight_of}
 use Rattle.boxes.specs.Rings.{start_of}
 use Rattle.gather.specs.declared.tally.Layout.{Layout}
 use Rattle.gather.specs.declared.tally.Layout.TheVariants.{Listed, EachRing}
-use Rattle.gather.specs.declared.tally.Added.{Added}
-use Rattle.gather.specs.declared.tally.Added.TheVariants.{To, Full}
 use Rattle.gather.specs.Slots.{slot_of}
 
 -- an edge met: its ring, and how it counts
@@ -66,6 +64,6 @@ pub record Counts (layout : Layout) (listed : List ℕ) (slots : List ℤ) (ring
   pub tallied : (count : ℕ) (met : List Met) → ring < count → length met < 2 ^ 61 → Tallied count met layout listed slots → Tallied count ((ring, crossing) ∷ met) layout' listed' slots'
 
 -- only a list can be full
-abbrev pub AddSays : Layout → List ℕ → List ℤ → ℕ → Crossing → List ℕ → List ℤ → Added → Type 0
-AddSays layout listed slots ring crossing listed' slots' (To layout') = Counts layout listed slots ring crossing layout' listed' slots'
-AddSays layout listed slots ring crossing listed' slots' Full = is_listed layout ≡ true
+abbrev pub AddSays : Layout → List ℕ → List ℤ → ℕ → Crossing → List ℕ → List ℤ → Option Layout → Type 0
+AddSays layout listed slots ring crossing listed' slots' (Some layout') = Counts layout listed slots ring crossing layout' listed' slots'
+AddSays layout listed slots ring crossing listed' slots' None = is_listed layout ≡ true

@@ -2,15 +2,12 @@
 // `locate_raw` of src/prepared.rs). At most two walks: the first lists up to 128 rings, and only where it meets more of them does a second
 // one give each ring a slot. So the work goes by the edges met, however the rings are nested, and no lent table is written.
 ghost use Rattle.std.specs.Prelude.{◌≡◌, true, false, [], ◌≤◌, ◌<◌, length};
-ghost use Rattle.rules.specs.Tables.{plan_of, polygons_in};
-ghost use Rattle.boxes.specs.Boxes.{rect_at};
-ghost use Rattle.rays.specs.Reach.{ray_rect};
-ghost use Rattle.walk.specs.declared.Query.TheVariants.{Meeting};
+ghost use Rattle.rules.specs.Tables.{plan_of};
 ghost use Rattle.walk.specs.Steps.{Whether};
 ghost use Rattle.gather.specs.Tallies.{ring_at, size_of, is_listed, Room, Tallied};
 ghost use Rattle.gather.specs.Regions.{Listable, FoldSays, Enough, LookSound, RegionSays, region_reply, reply_of, LookedUp};
 
-use crate::collect::{Collected, collect};
+use crate::collect::{Stopped, collect};
 use crate::tally::{LISTED, Layout, place_of};
 use boxes::rect_at;
 use fold::{begin, finish, fold_ring};
@@ -18,18 +15,8 @@ use geom::Point;
 use index::count::node_count;
 use plans::MAX_RINGS;
 use rays::reach::ray_rect;
-use rules::{Kind, Location, Ray, Refusal, Reply, State};
+use rules::{Kind, Location, Ray, Refusal, Reply, State, polygons_in};
 use walk::Query;
-
-// What one walk says of the region.
-#[derive(Clone, Copy)]
-pub(crate) enum Region {
-    At(Location),
-    // more rings are met than a list holds
-    TooMany,
-    // 15
-    Unsound,
-}
 
 // How many slots count, of so many rings.
 fn size_of(layout: Layout, count: usize) -> usize
@@ -66,14 +53,11 @@ fn fold_slots(
     requires count_bound { count ≤ 65536 }
     ensures { FoldSays kind polygons.now polygon_count count layout listed.now slots.now result }
 {
-    let size = size_of(layout, count);
     let mut fold = begin();
-    let mut k = 0;
-    while k < size {
+    for k in 0..size_of(layout, count) {
         let ring = ring_at(layout, listed, k);
         let place = place_of(slots[k]);
         fold = fold_ring(kind, polygons, polygon_count, fold, ring, place);
-        k += 1;
     }
     finish(kind, fold)
 }
@@ -81,10 +65,7 @@ fn fold_slots(
 // What one walk along the ray says of the region, with no edge counted before it.
 fn region_by(
     layout: Layout,
-    kind: Kind,
-    polygon_count: usize,
     ray: Ray,
-    query: Query,
     state: State,
     corners: &[i64],
     rings: &[usize],
@@ -95,28 +76,27 @@ fn region_by(
     p: Point,
     listed: &mut [usize],
     slots: &mut [i64],
-) -> Region
+) -> Result<Location, Stopped>
     requires room { Room layout (length listed.old) (length slots.old) }
-    requires as_stated { (state.rings ≤ 65536) × (kind ≡ state.kind) × (polygon_count ≡ polygons_in state.kind state.polygons) × (query ≡ Meeting (ray_rect ray (rect_at boxes.now 0) p)) }
+    requires as_stated { (state.rings ≤ 65536) × (0 < length boxes.now) }
     ensures { RegionSays (is_listed layout) (LookSound state corners.now rings.now polygons.now boxes.now parts.now edges.now × Tallied state.rings [] layout listed.old slots.old) (region_reply (plan_of state corners.now rings.now polygons.now) p) result }
 {
+    let query = Query::Meeting(ray_rect(ray, rect_at(boxes, 0), p));
     let n = state.corners;
     let count = state.rings;
-    match collect(
+    let whole = collect(
         layout, ray, query, corners, rings, boxes, parts, edges, n, count, p, listed, slots,
-    ) {
-        Collected::Unsound => Region::Unsound,
-        Collected::TooMany => Region::TooMany,
-        Collected::Whole(whole) => Region::At(fold_slots(
-            kind,
-            polygons,
-            polygon_count,
-            count,
-            whole,
-            listed,
-            slots,
-        )),
-    }
+    )?;
+    let polygon_count = polygons_in(state.kind, state.polygons);
+    Ok(fold_slots(
+        state.kind,
+        polygons,
+        polygon_count,
+        count,
+        whole,
+        listed,
+        slots,
+    ))
 }
 
 // By a list of rings.
@@ -130,20 +110,15 @@ fn few_rings(
     parts: &[[usize; 3]],
     edges: &[usize],
     p: Point,
-) -> Region
+) -> Result<Location, Stopped>
     requires { (state.rings ≤ 65536) × (0 < length boxes.now) }
     ensures { RegionSays true (LookSound state corners.now rings.now polygons.now boxes.now parts.now edges.now) (region_reply (plan_of state corners.now rings.now polygons.now) p) result }
 {
-    let kind = state.kind;
-    let mut listed = [0usize; LISTED];
-    let mut slots = [0i64; LISTED];
-    let query = Query::Meeting(ray_rect(ray, rect_at(boxes, 0), p));
+    let mut listed = [0; LISTED];
+    let mut slots = [0; LISTED];
     region_by(
         Layout::Listed(0),
-        kind,
-        polygons_in(kind, state.polygons),
         ray,
-        query,
         state,
         corners,
         rings,
@@ -157,12 +132,10 @@ fn few_rings(
     )
 }
 
-// By a slot for each ring. A function of its own in the machine's code too: as a part of `region_along` it would have each look-up touch all pages
-// of half a mebibyte before its first step.
+// By a slot for each ring, where a list has not been enough. A function of its own in the machine's code too: as a part of `region_along`
+// it would have each look-up touch all pages of half a mebibyte before its first step.
 #[inline(never)]
 fn many_rings(
-    kind: Kind,
-    polygon_count: usize,
     ray: Ray,
     state: State,
     corners: &[i64],
@@ -172,96 +145,35 @@ fn many_rings(
     parts: &[[usize; 3]],
     edges: &[usize],
     p: Point,
-) -> Region
-    requires { (state.rings ≤ 65536) × (kind ≡ state.kind) × (polygon_count ≡ polygons_in state.kind state.polygons) × (0 < length boxes.now) }
-    ensures { RegionSays false (LookSound state corners.now rings.now polygons.now boxes.now parts.now edges.now) (region_reply (plan_of state corners.now rings.now polygons.now) p) result }
-{
-    let mut listed = [0usize; 1];
-    let mut slots = [0i64; MAX_RINGS];
-    let query = Query::Meeting(ray_rect(ray, rect_at(boxes, 0), p));
-    region_by(
-        Layout::EachRing,
-        kind,
-        polygon_count,
-        ray,
-        query,
-        state,
-        corners,
-        rings,
-        polygons,
-        boxes,
-        parts,
-        edges,
-        p,
-        &mut listed,
-        &mut slots,
-    )
-}
-
-// By a slot for each ring, where a list has not been enough.
-fn second_walk(
-    ray: Ray,
-    state: State,
-    corners: &[i64],
-    rings: &[usize],
-    polygons: &[usize],
-    boxes: &[[i64; 4]],
-    parts: &[[usize; 3]],
-    edges: &[usize],
-    p: Point,
-) -> Region
+) -> Result<Location, Stopped>
     requires { (state.rings ≤ 65536) × (0 < length boxes.now) }
     ensures { RegionSays false (LookSound state corners.now rings.now polygons.now boxes.now parts.now edges.now) (region_reply (plan_of state corners.now rings.now polygons.now) p) result }
 {
-    let kind = state.kind;
-    match kind {
-        Kind::Polygons => many_rings(
-            Kind::Polygons,
-            state.polygons,
-            ray,
-            state,
-            corners,
-            rings,
-            polygons,
-            boxes,
-            parts,
-            edges,
-            p,
-        ),
-        Kind::Tree => many_rings(
-            Kind::Tree,
-            0,
-            ray,
-            state,
-            corners,
-            rings,
-            polygons,
-            boxes,
-            parts,
-            edges,
-            p,
-        ),
-    }
+    let mut listed = [0; 1];
+    let mut slots = [0; MAX_RINGS];
+    region_by(
+        Layout::EachRing,
+        ray,
+        state,
+        corners,
+        rings,
+        polygons,
+        boxes,
+        parts,
+        edges,
+        p,
+        &mut listed,
+        &mut slots,
+    )
 }
 
 // A region's place as a reply.
-fn answer(region: Region) -> Reply
+fn answer(region: Result<Location, Stopped>) -> Reply
     ensures { result ≡ reply_of region }
 {
     match region {
-        Region::At(location) => Reply::At(location),
-        Region::TooMany => Reply::Refused(Refusal::Unsound),
-        Region::Unsound => Reply::Refused(Refusal::Unsound),
-    }
-}
-
-// How many polygons a state counts: none in a tree.
-fn polygons_in(kind: Kind, polygons: usize) -> usize
-    ensures { result ≡ polygons_in kind polygons }
-{
-    match kind {
-        Kind::Polygons => polygons,
-        Kind::Tree => 0,
+        Ok(location) => Ok(location),
+        Err(_) => Err(Refusal::Unsound),
     }
 }
 
@@ -277,28 +189,13 @@ pub(crate) fn lent_enough(
 ) -> bool
     ensures { Whether (Enough state corners rings polygons boxes parts edges) result }
 {
-    let n = state.corners;
-    if corners / 2 < n {
-        return false;
-    }
-    if rings < state.rings {
-        return false;
-    }
-    let kind = state.kind;
-    if polygons < polygons_in(kind, state.polygons) {
-        return false;
-    }
-    let nodes = node_count(n);
-    if boxes < nodes {
-        return false;
-    }
-    if parts < nodes {
-        return false;
-    }
-    if edges < n {
-        return false;
-    }
-    true
+    let nodes = node_count(state.corners);
+    state.corners <= corners / 2
+        && state.rings <= rings
+        && polygons_in(state.kind, state.polygons) <= polygons
+        && nodes <= boxes
+        && nodes <= parts
+        && state.corners <= edges
 }
 
 /// Where p lies in the region of a prepared plan, along any of the four rays: on sound tables the reply by the polygon, list or tree
@@ -328,16 +225,15 @@ pub fn region_along(
         parts.len(),
         edges.len(),
     ) {
-        return Reply::Refused(Refusal::Unsound);
+        return Err(Refusal::Unsound);
     }
     if MAX_RINGS < state.rings {
-        return Reply::Refused(Refusal::Unsound);
+        return Err(Refusal::Unsound);
     }
     match few_rings(ray, state, corners, rings, polygons, boxes, parts, edges, p) {
-        Region::At(location) => Reply::At(location),
-        Region::TooMany => answer(second_walk(
+        Err(Stopped::TooMany) => answer(many_rings(
             ray, state, corners, rings, polygons, boxes, parts, edges, p,
         )),
-        Region::Unsound => Reply::Refused(Refusal::Unsound),
+        region => answer(region),
     }
 }

@@ -29,15 +29,6 @@ pub(crate) enum Layout {
     EachRing,
 }
 
-// What comes of one edge more.
-#[derive(Clone, Copy)]
-pub(crate) enum Added {
-    // It is counted, and slots belong to rings so.
-    To(Layout),
-    // It is of yet another ring, and the list has no place for it.
-    Full,
-}
-
 // Whether a slot holds a winding.
 fn is_winding(slot: i64) -> bool
     ensures { result ≡ within (2 ^ 61) slot }
@@ -49,12 +40,7 @@ fn is_winding(slot: i64) -> bool
 fn is_nothing(crossing: Crossing) -> bool
     ensures { result ≡ is_nothing crossing }
 {
-    match crossing {
-        Crossing::Nothing => true,
-        Crossing::Up => false,
-        Crossing::Down => false,
-        Crossing::On => false,
-    }
+    matches!(crossing, Crossing::Nothing)
 }
 
 // A slot with one edge more.
@@ -88,8 +74,7 @@ fn count_in(slots: &mut [i64], k: usize, crossing: Crossing)
     requires { k < length slots.old }
     ensures { slots.new ≡ set slots.old k (counted_of (get_or slots.old k (pos 0)) crossing) }
 {
-    let slot = slots[k];
-    slots[k] = counted(slot, crossing);
+    slots[k] = counted(slots[k], crossing);
 }
 
 // How many of the rings listed are not higher than this one.
@@ -111,25 +96,7 @@ fn ends_with(listed: &[usize], k: usize, ring: usize) -> bool
     requires { k ≤ length listed.now }
     ensures { Whether ((0 < k) × (get_or listed.now (k - 1) 0 ≡ ring)) result }
 {
-    if k == 0 {
-        return false;
-    }
-    if listed[k - 1] == ring {
-        return true;
-    }
-    false
-}
-
-// Moves what stands below place j up to it.
-fn move_up(listed: &mut [usize], slots: &mut [i64], j: usize)
-    requires { (0 < j) × (j < length listed.old) × (j < length slots.old) }
-    ensures listed_after { listed.new ≡ set listed.old j (get_or listed.old (j - 1) 0) }
-    ensures slots_after { slots.new ≡ set slots.old j (get_or slots.old (j - 1) (pos 0)) }
-{
-    let ring = listed[j - 1];
-    let slot = slots[j - 1];
-    listed[j] = ring;
-    slots[j] = slot;
+    0 < k && listed[k - 1] == ring
 }
 
 // Puts a ring and its slot at place k, in front of those that stand from there to `used`.
@@ -138,58 +105,59 @@ fn insert(listed: &mut [usize], slots: &mut [i64], used: usize, k: usize, ring: 
     ensures listed_inserted { Inserted 0 listed.old used k ring listed.new }
     ensures slots_inserted { Inserted (pos 0) slots.old used k slot slots.new }
 {
-    let mut j = used;
-    while k < j {
-        move_up(listed, slots, j);
-        j -= 1;
+    // one pass over both lists: two calls of `copy_within` take longer where many rings are listed
+    for j in (k..used).rev() {
+        listed[j + 1] = listed[j];
+        slots[j + 1] = slots[j];
     }
     listed[k] = ring;
     slots[k] = slot;
 }
 
-// Counts one edge more of a ring that is listed, or that the list has a place for.
+// Counts one edge more of a ring that is listed, or that the list has a place for: `None` where it has none.
 fn add_listed(
     listed: &mut [usize],
     slots: &mut [i64],
     used: usize,
     ring: usize,
     crossing: Crossing,
-) -> Added
+) -> Option<Layout>
     requires { Room (Listed used) (length listed.old) (length slots.old) }
     ensures { AddSays (Listed used) listed.old slots.old ring crossing listed.new slots.new result }
 {
     let k = reaching(listed, used, ring);
     if ends_with(listed, k, ring) {
         count_in(slots, k - 1, crossing);
-        return Added::To(Layout::Listed(used));
+        return Some(Layout::Listed(used));
     }
     if LISTED <= used {
-        return Added::Full;
+        return None;
     }
     insert(listed, slots, used, k, ring, counted(0, crossing));
-    Added::To(Layout::Listed(used + 1))
+    Some(Layout::Listed(used + 1))
 }
 
-// Counts one edge more, of the given ring. An edge that says nothing of the point asks for no place.
+// Counts one edge more, of the given ring: which slot belongs to which ring then, or `None` where it is of yet another ring and the list
+// has no place for it. An edge that says nothing of the point asks for no place.
 pub(crate) fn add(
     layout: Layout,
     listed: &mut [usize],
     slots: &mut [i64],
     ring: usize,
     crossing: Crossing,
-) -> Added
+) -> Option<Layout>
     requires room { Room layout (length listed.old) (length slots.old) }
     requires ring_bound { ring < 65536 }
     ensures { AddSays layout listed.old slots.old ring crossing listed.new slots.new result }
 {
     if is_nothing(crossing) {
-        return Added::To(layout);
+        return Some(layout);
     }
     match layout {
         Layout::Listed(used) => add_listed(listed, slots, used, ring, crossing),
         Layout::EachRing => {
             count_in(slots, ring, crossing);
-            Added::To(Layout::EachRing)
+            Some(Layout::EachRing)
         }
     }
 }

@@ -1,15 +1,15 @@
 -- Closed boxes are what their names say: two that meet share a point and the other way round, the union is the smallest box that
 -- holds both, and the empty box holds nothing, adds nothing and meets no box in range. Assumes nothing.
-use mathlib.Core.Path.{◌≡◌, sym, ◌∙◌, ap}
+use mathlib.Core.Path.{◌≡◌, ap}
 use mathlib.Core.Bool.{true, false, ◌&&◌}
 use Prim.Native.Nat.{◌^◌}
 use lib.IntN.{ℤ, pos, neg_ℤ}
-use lib.Signed.{le_z, lt_z, ◌≤ℤ◌, ◌<ℤ◌}
+use lib.Signed.{le_z, ◌≤ℤ◌, ◌<ℤ◌}
 use mir.Syntax.{w64}
 use mir.Val.{SFits}
 use Rattle.integers.proofs.Order.{zarith, ≤ℤ_refl, ≤ℤ_trans, ≤ℤ_antisym, mag_parts}
 use Rattle.integers.proofs.Signs.{min_parts, max_parts, min_least, max_greatest, min_right, max_right, min_assoc, max_assoc}
-use Rattle.integers.proofs.Tests.{and_true, and_none, le_true, le_false, true_lt, true_le, not_both}
+use Rattle.integers.proofs.Tests.{and_true, le_true, le_false, true_le, not_both}
 use Rattle.geom.specs.declared.Point.{Point}
 use Rattle.geom.specs.declared.Rect.{Rect}
 use Rattle.geom.specs.Boxes.{lesser_of, greater_of, rect_of, empty_rect, union_of, meets, holds_point, holds_rect}
@@ -160,10 +160,3 @@ empty_union r ax ay bx by =
       min = record { x = min_right _ r.min.x (fits_below r.min.x ax) i; y = min_right _ r.min.y (fits_below r.min.y ay) i };
       max = record { x = max_right _ r.max.x (fits_above r.max.x bx) i; y = max_right _ r.max.y (fits_above r.max.y by) i };
     }
-
--- a box that ends below the point does not hold it
-pub not_below : (r : Rect) (p : Point) → lt_z r.max.y p.y ≡ true → false ≡ holds_point r p
-not_below r p e =
-    sym ((λ i. (le_z r.min.x p.x && le_z p.x r.max.x) && (le_z r.min.y p.y && le_false p.y r.max.y (true_lt r.max.y p.y e) i))
-    ∙ ap (λ b. (le_z r.min.x p.x && le_z p.x r.max.x) && b) (and_none (le_z r.min.y p.y))
-    ∙ and_none (le_z r.min.x p.x && le_z p.x r.max.x))

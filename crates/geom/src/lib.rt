@@ -1,46 +1,69 @@
 // Points and closed boxes on the integer grid (src/geom.rs; document 01, item 1).
 #![tactic(auto)]
 
-ghost use Rattle.std.specs.Prelude.{◌≡◌};
-ghost use Rattle.std.specs.Int.Signed.{lt_z};
-ghost use Rattle.geom.specs.Range.{in_range, in_doubled_range};
+ghost use Rattle.std.specs.Prelude.{◌≡◌, pos, ◌≤ℤ◌, unsigned_abs};
+ghost use Rattle.geom.specs.Range.{both_within, in_range, in_doubled_range};
 ghost use Rattle.geom.specs.Boxes.{empty_rect, lesser_of, greater_of, rect_of, union_of, meets, holds_point, holds_rect};
 
-use integers::{max, min};
+/// The largest coordinate in range, either side of zero.
+pub const MAX_COORD: i64 = 1 << 40;
 
-/// The largest coordinate in range, either side of zero: 2^40.
-pub const MAX_COORD: i64 = 1099511627776;
-
-/// The largest doubled coordinate in range, either side of zero: 2^41.
-pub const MAX_DOUBLED: i64 = 2199023255552;
+/// The largest doubled coordinate in range, either side of zero.
+pub const MAX_DOUBLED: i64 = 1 << 41;
 
 /// A point of the grid or, doubled, of the half-grid.
-#[derive(Clone, Copy)]
+#[derive(Clone, Copy, PartialEq, Eq)]
 pub struct Point {
     pub x: i64,
     pub y: i64,
 }
 
 impl Point {
+    // Whether both coordinates lie within ±bound.
+    fn both_within(self, bound: i64) -> bool
+        requires { pos 0 ≤ℤ bound }
+        ensures { result ≡ both_within (unsigned_abs bound) self }
+    {
+        ((-bound <= self.x) & (self.x <= bound)) & ((-bound <= self.y) & (self.y <= bound))
+    }
+
     /// Whether both coordinates lie within ±2^40.
     pub fn in_range(self) -> bool
         ensures { result ≡ in_range self }
     {
-        ((-MAX_COORD <= self.x) & (self.x <= MAX_COORD))
-            & ((-MAX_COORD <= self.y) & (self.y <= MAX_COORD))
+        self.both_within(MAX_COORD)
     }
 
     /// Whether both coordinates of a doubled point lie within ±2^41.
     pub fn in_doubled_range(self) -> bool
         ensures { result ≡ in_doubled_range self }
     {
-        ((-MAX_DOUBLED <= self.x) & (self.x <= MAX_DOUBLED))
-            & ((-MAX_DOUBLED <= self.y) & (self.y <= MAX_DOUBLED))
+        self.both_within(MAX_DOUBLED)
+    }
+
+    // The lesser x and the lesser y of two points.
+    fn lesser(self, other: Self) -> Self
+        ensures { result ≡ lesser_of self other }
+    {
+        Self {
+            x: self.x.min(other.x),
+            y: self.y.min(other.y),
+        }
+    }
+
+    // The greater x and the greater y of two points.
+    fn greater(self, other: Self) -> Self
+        ensures { result ≡ greater_of self other }
+    {
+        Self {
+            x: self.x.max(other.x),
+            y: self.y.max(other.y),
+        }
     }
 }
 
 /// A closed box: its least and its greatest corner.
-#[derive(Clone, Copy)]
+#[derive(Clone, Copy, PartialEq, Eq)]
 pub struct Rect {
     pub min: Point,
     pub max: Point,
@@ -49,43 +72,23 @@ pub struct Rect {
 /// The box round no edges. It holds no point, meets no box in range, and its union with any box is that box.
 pub const EMPTY_RECT: Rect = Rect {
     min: Point {
-        x: 9223372036854775807,
-        y: 9223372036854775807,
+        x: i64::MAX,
+        y: i64::MAX,
     },
     max: Point {
-        x: -9223372036854775808,
-        y: -9223372036854775808,
+        x: i64::MIN,
+        y: i64::MIN,
     },
 };
-
-// The lesser x and the lesser y of two points.
-fn lesser(p: Point, q: Point) -> Point
-    ensures { result ≡ lesser_of p q }
-{
-    Point {
-        x: min(p.x, q.x),
-        y: min(p.y, q.y),
-    }
-}
-
-// The greater x and the greater y of two points.
-fn greater(p: Point, q: Point) -> Point
-    ensures { result ≡ greater_of p q }
-{
-    Point {
-        x: max(p.x, q.x),
-        y: max(p.y, q.y),
-    }
-}
 
 impl Rect {
     /// The box of two corners, in any order.
     pub fn new(a: Point, b: Point) -> Self
         ensures { result ≡ rect_of a b }
     {
-        Rect {
-            min: lesser(a, b),
-            max: greater(a, b),
+        Self {
+            min: a.lesser(b),
+            max: a.greater(b),
         }
     }
 
@@ -97,17 +100,17 @@ impl Rect {
     }
 
     /// The smallest box that holds both.
-    pub fn union(self, other: Rect) -> Rect
+    pub fn union(self, other: Self) -> Self
         ensures { result ≡ union_of self other }
     {
-        Rect {
-            min: lesser(self.min, other.min),
-            max: greater(self.max, other.max),
+        Self {
+            min: self.min.lesser(other.min),
+            max: self.max.greater(other.max),
         }
     }
 
     /// Whether the two closed boxes share a point.
-    pub fn intersects(self, other: Rect) -> bool
+    pub fn intersects(self, other: Self) -> bool
         ensures { result ≡ meets self other }
     {
         ((self.min.x <= other.max.x) & (other.min.x <= self.max.x))
@@ -118,30 +121,20 @@ impl Rect {
     pub fn contains_point(self, p: Point) -> bool
         ensures { result ≡ holds_point self p }
     {
-        if ends_below(self, p) {
-            return false;
-        }
-        holds(self, p)
+        p.y <= self.max.y && self.holds(p)
     }
 
     /// Whether both corners of the other box lie in this one.
-    pub fn contains_rect(self, other: Rect) -> bool
+    pub fn contains_rect(self, other: Self) -> bool
         ensures { result ≡ holds_rect self other }
     {
-        holds(self, other.min) & holds(self, other.max)
+        self.holds(other.min) & self.holds(other.max)
     }
-}
 
-// Whether all of the box lies below the point.
-fn ends_below(r: Rect, p: Point) -> bool
-    ensures { result ≡ lt_z r.max.y p.y }
-{
-    r.max.y < p.y
-}
-
-// Whether the point lies in the closed box, by all four tests at once.
-fn holds(r: Rect, p: Point) -> bool
-    ensures { result ≡ holds_point r p }
-{
-    ((r.min.x <= p.x) & (p.x <= r.max.x)) & ((r.min.y <= p.y) & (p.y <= r.max.y))
+    // Whether the point lies in the closed box, by all four tests at once.
+    fn holds(self, p: Point) -> bool
+        ensures { result ≡ holds_point self p }
+    {
+        ((self.min.x <= p.x) & (p.x <= self.max.x)) & ((self.min.y <= p.y) & (p.y <= self.max.y))
+    }
 }

@@ -1,19 +1,19 @@
 -- Spaces and numbers read from a place of a text on. Assumes nothing.
 use mathlib.Core.Path.{◌≡◌, refl, sym, ap, ◌∙◌}
-use mathlib.Core.Bool.{Bool, true, false, cond}
+use mathlib.Core.Bool.{Bool, true, false, cond, and-false}
 use mathlib.Core.List.{List}
 use Prim.Native.Nat.{ℕ, zero, suc, ◌+◌, ◌-◌, ◌*◌, ◌^◌, ◌≤◌, ◌<◌}
 use native.Mathlib.Decide.{dec_lt}
 use native.Mathlib.Omega.{arith}
 use lib.IntN.{ℤ, pos}
 use lib.ListN.{length, get_or}
-use borrow.Author.Tests.{lt-ltb, le-ltb, ne_eqb}
-use Rattle.grammar.specs.declared.numbers.Token.{Token}
-use Rattle.grammar.specs.declared.numbers.Token as Token
+use lib.Dec.{leb}
+use borrow.Author.Tests.{lt-ltb, le-ltb, lt-leb, le-leb, ne_eqb}
+use Rattle.std.specs.Prelude.{Ok, Err}
 use Rattle.grammar.specs.Numbers.{Whole, Begun, minus_begun, value_begun, off_begun, is_digit, value_of, whole_of, plain, under, fitting, first_byte, next_digit}
 use Rattle.grammar.specs.Modes.{Mode, broken_mode, nothing_event, begun_x, begun_y, next_mode, event_of}
 use Rattle.grammar.specs.Scans.{SoFar, may_end, is_broken, read_from}
-use Rattle.grammar.specs.Tokens.{Resting, Skipped, Wanted, wants_x, wants_y, wanting, within, Ended, NumberRead}
+use Rattle.grammar.specs.Tokens.{Resting, Skipped, Read, Wanted, wants_x, wants_y, wanting, within, Ended, NumberRead}
 use Rattle.grammar.proofs.Digits.{Allowed, digit_range}
 use Rattle.grammar.proofs.Steps.{leads, leaves, stops_early, space_skipped}
 
@@ -163,7 +163,7 @@ module _ (text : List ℕ) (at : ℕ) (begun : Begun) (below : Bool) (worth plac
             (within_whole w (record { below = below; size = grown more }));
       }
 
-  pub grown_off : (more : ℕ) → more ≡ cond below 9 0 → place < length text → is_digit (get_or text place 0) ≡ true → 2 ^ 63 ≤ grown more → NumberRead text at (λ w. within w begun) at (Token.TheVariants.Off place)
+  pub grown_off : (more : ℕ) → more ≡ cond below 9 0 → place < length text → is_digit (get_or text place 0) ≡ true → 2 ^ 63 ≤ grown more → NumberRead text at (λ w. within w begun) at (Err (record { place = place }))
   grown_off more e h d s =
       record {
         ended = tt;
@@ -174,7 +174,7 @@ module _ (text : List ℕ) (at : ℕ) (begun : Begun) (below : Bool) (worth plac
       }
 
   -- no digit follows
-  pub number_whole : (z : ℤ) → z ≡ value_of (record { below = below; size = worth }) → (place < length text → is_digit (get_or text place 0) ≡ false) → NumberRead text at (λ w. within w begun) at (Token.TheVariants.Number z place)
+  pub number_whole : (z : ℤ) → z ≡ value_of (record { below = below; size = worth }) → (place < length text → is_digit (get_or text place 0) ≡ false) → NumberRead text at (λ w. within w begun) at (Ok (z, place))
   number_whole z e d =
       record {
         ended = (g.on, g.inside, d);
@@ -188,32 +188,32 @@ begun_within w minus_begun a = (refl, minus_whole w)
 begun_within w (value_begun v) a = (refl, within_whole w v)
 begun_within w off_begun a = absurd a
 
-ended_later : (text : List ℕ) (from from' : ℕ) (r : Token) → from ≤ from' → Ended text from' r → Ended text from r
-ended_later text from from' (Token.TheVariants.Number z end) h e = let o = e.0 in (omega arith, e.1, e.2)
-ended_later text from from' (Token.TheVariants.Off place) h e = tt
+ended_later : (text : List ℕ) (from from' : ℕ) (r : Read ℤ) → from ≤ from' → Ended text from' r → Ended text from r
+ended_later text from from' (Ok (z, end)) h e = let o = e.0 in (omega arith, e.1, e.2)
+ended_later text from from' (Err off) h e = tt
 
 module _ (text : List ℕ) (at : ℕ) where
   -- a 0 is a whole number
-  pub zero_whole : at ≤ length text → (at < length text → is_digit (get_or text at 0) ≡ false) → NumberRead text at (λ w. within w (value_begun (plain 0))) at (Token.TheVariants.Number (pos 0) at)
+  pub zero_whole : at ≤ length text → (at < length text → is_digit (get_or text at 0) ≡ false) → NumberRead text at (λ w. within w (value_begun (plain 0))) at (Ok (pos 0, at))
   zero_whole h d = record { ended = (omega arith, h, d); means = λ w f. refl }
 
   -- a byte that no number goes on with
-  off : (begun : Begun) → at < length text → ((w : Wanted) → next_mode (within w begun) (get_or text at 0) ≡ broken_mode) → NumberRead text at (λ w. within w begun) at (Token.TheVariants.Off at)
+  off : (begun : Begun) → at < length text → ((w : Wanted) → next_mode (within w begun) (get_or text at 0) ≡ broken_mode) → NumberRead text at (λ w. within w begun) at (Err (record { place = at }))
   off begun h b = record { ended = tt; means = λ w f. leaves text at (within w begun) f h (b w) }
 
-  pub zero_off : at < length text → is_digit (get_or text at 0) ≡ true → NumberRead text at (λ w. within w (value_begun (plain 0))) at (Token.TheVariants.Off at)
+  pub zero_off : at < length text → is_digit (get_or text at 0) ≡ true → NumberRead text at (λ w. within w (value_begun (plain 0))) at (Err (record { place = at }))
   zero_off h d = off (value_begun (plain 0)) h (λ w. digit_next w (value_begun (plain 0)) (get_or text at 0) d)
 
-  pub minus_early : length text ≤ at → NumberRead text at (λ w. within w minus_begun) at (Token.TheVariants.Off at)
+  pub minus_early : length text ≤ at → NumberRead text at (λ w. within w minus_begun) at (Err (record { place = at }))
   minus_early h = record { ended = tt; means = λ w f. stops_early text at (within w minus_begun) f h (within_early w minus_begun) }
 
-  pub minus_other : at < length text → is_digit (get_or text at 0) ≡ false → NumberRead text at (λ w. within w minus_begun) at (Token.TheVariants.Off at)
+  pub minus_other : at < length text → is_digit (get_or text at 0) ≡ false → NumberRead text at (λ w. within w minus_begun) at (Err (record { place = at }))
   minus_other h d = off minus_begun h (λ w. minus_off w (get_or text at 0) d)
 
-  pub minus_zero : at < length text → get_or text at 0 ≡ 48 → NumberRead text at (λ w. within w minus_begun) at (Token.TheVariants.Off at)
+  pub minus_zero : at < length text → get_or text at 0 ≡ 48 → NumberRead text at (λ w. within w minus_begun) at (Err (record { place = at }))
   minus_zero h z = off minus_begun h (λ w. ap (next_mode (within w minus_begun)) z ∙ digit_next w minus_begun 48 refl)
 
-  pub minus_digit : (r : Token) (n : ℕ) → at < length text → is_digit (get_or text at 0) ≡ true → get_or text at 0 ≡ 49 + n → NumberRead text (at + 1) (λ w. within w (value_begun (under n))) (at + 1) r → NumberRead text at (λ w. within w minus_begun) at r
+  pub minus_digit : (r : Read ℤ) (n : ℕ) → at < length text → is_digit (get_or text at 0) ≡ true → get_or text at 0 ≡ 49 + n → NumberRead text (at + 1) (λ w. within w (value_begun (under n))) (at + 1) r → NumberRead text at (λ w. within w minus_begun) at r
   minus_digit r n h d z g =
       record {
         ended = ended_later text at (at + 1) r (omega arith) g.ended;
@@ -221,13 +221,13 @@ module _ (text : List ℕ) (at : ℕ) where
       }
 
   module _ (start : ℕ) (g : Skipped text at start) where
-    pub number_early : length text ≤ start → NumberRead text at wanting (at + 1) (Token.TheVariants.Off start)
+    pub number_early : length text ≤ start → NumberRead text at wanting (at + 1) (Err (record { place = start }))
     number_early h = record { ended = tt; means = λ w f. g.same (wanting w) f (wanting_rests w) ∙ stops_early text start (wanting w) f h (wanting_early w) }
 
-    pub number_off : start < length text → first_byte (get_or text start 0) ≡ off_begun → NumberRead text at wanting (at + 1) (Token.TheVariants.Off start)
+    pub number_off : start < length text → first_byte (get_or text start 0) ≡ off_begun → NumberRead text at wanting (at + 1) (Err (record { place = start }))
     number_off h b = record { ended = tt; means = λ w f. g.same (wanting w) f (wanting_rests w) ∙ leaves text start (wanting w) f h (first_next w (get_or text start 0) (g.stops h) ∙ ap (begun_as w) b) }
 
-    pub number_begun : (begun : Begun) (r : Token) → Allowed begun → start < length text → first_byte (get_or text start 0) ≡ begun → NumberRead text (start + 1) (λ w. within w begun) (start + 1) r → NumberRead text at wanting (at + 1) r
+    pub number_begun : (begun : Begun) (r : Read ℤ) → Allowed begun → start < length text → first_byte (get_or text start 0) ≡ begun → NumberRead text (start + 1) (λ w. within w begun) (start + 1) r → NumberRead text at wanting (at + 1) r
     number_begun begun r a h b n =
         let o = g.on in
         record {
@@ -247,3 +247,22 @@ first_digit b m d = rw (ne_eqb b 45 m, d) refl
 
 pub first_off : (b : ℕ) → (b ≡ 45 → ⊥) → is_digit b ≡ false → first_byte b ≡ off_begun
 first_off b m d = rw (ne_eqb b 45 m, d) refl
+
+-- ---- a byte that is no digit
+
+pub below_digits : (b : ℕ) → b < 48 → is_digit b ≡ false
+below_digits b h = rw (lt-leb 48 b h) refl
+
+pub above_digits : (b : ℕ) → 57 < b → is_digit b ≡ false
+above_digits b h = rw (lt-leb b 57 h) (and-false (leb 48 b))
+
+pub digit_there : (b : ℕ) → 48 ≤ b → b ≤ 57 → is_digit b ≡ true
+digit_there b h k = rw (le-leb 48 b h, le-leb b 57 k) refl
+
+-- behind a minus
+pub minus_below : (text : List ℕ) (at : ℕ) → at < length text → get_or text at 0 < 49 → NumberRead text at (λ w. within w minus_begun) at (Err (record { place = at }))
+minus_below text at h b = go (dec_lt (get_or text at 0) 48)
+  where
+    go : Dec (get_or text at 0 < 48) → NumberRead text at (λ w. within w minus_begun) at (Err (record { place = at }))
+    go (yes k) = minus_other text at h (below_digits (get_or text at 0) k)
+    go (no k) = minus_zero text at h (omega arith)

@@ -2,10 +2,9 @@
 use mathlib.Core.Path.{◌≡◌, refl, ◌∙◌, subst}
 use mathlib.Core.List.{List}
 use Prim.Native.Nat.{ℕ, ◌+◌, ◌-◌, ◌/◌, ◌≤◌, ◌<◌}
-use native.Mathlib.Decide.{ℕ_discrete}
 use native.Mathlib.Omega.{arith}
 use lib.IntN.{ℤ}
-use lib.ListN.{length, get_or, set, length-set}
+use lib.ListN.{length, set, length-set}
 use lib.Seq.{get_or-set_same, get_or-set_other}
 use Rattle.geom.specs.declared.Rect.{Rect}
 use Rattle.boxes.specs.Boxes.{box_of, rect_at, Names}
@@ -19,18 +18,6 @@ use Rattle.index.specs.Build.{Numbered, KeptFrom, Two, Children, NodeCut}
 -- ---- edge numbers in order
 pub numbered_none : (xs : List ℕ) → Numbered 0 xs xs
 numbered_none xs = record { long = refl; inside = λ k u. absurd (omega arith); after = λ k l. refl }
-
-pub numbered_more : (i : ℕ) (xs ys : List ℕ) → i < length xs → Numbered i xs ys → Numbered (i + 1) xs (set ys i i)
-numbered_more i xs ys h N =
-    record {
-      long = length-set ys i i ∙ N.long;
-      inside = λ k u. at k u (ℕ_discrete k i);
-      after = λ k l. get_or-set_other ys i k i 0 (omega arith) ∙ N.after k (omega arith);
-    }
-  where
-    at : (k : ℕ) → k < i + 1 → Dec (k ≡ i) → get_or (set ys i i) k 0 ≡ k
-    at k u (yes e) = rw e (get_or-set_same ys i i 0 (omega (arith, N.long)))
-    at k u (no d) = get_or-set_other ys i k i 0 d ∙ N.inside k (omega arith)
 
 -- ---- two on the stack
 pub two : (xs : List ℕ) (u a b : ℕ) → u + 1 < length xs → Two xs u a b (set (set xs u a) (u + 1) b)

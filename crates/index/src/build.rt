@@ -22,10 +22,8 @@ fn number(edges: &mut [usize], n: usize)
     requires { n ≤ length edges.old }
     ensures { Numbered n edges.old edges.new }
 {
-    let mut i: usize = 0;
-    while i < n {
+    for i in 0..n {
         edges[i] = i;
-        i += 1;
     }
 }
 
@@ -90,16 +88,25 @@ fn cut_node(
     requires part_inside { (0 < count_at parts.old p) × (first_at parts.old p + count_at parts.old p ≤ n) }
     ensures { NodeCut corners.now rings.now boxes.old parts.old edges.old p free boxes.new parts.new edges.new result }
 {
-    let first = parts[p][0];
-    let size = parts[p][1];
+    let [first, size, _] = parts[p];
     let half = size / 2;
     let rest = size - half;
     let axis = axis_of(rect_at(boxes, p));
     let reads = cut_part(corners, rings, edges, n, count, axis, first, size);
     let left = part_box(corners, rings, edges, n, count, first, half);
     let right = part_box(corners, rings, edges, n, count, first + half, rest);
-    let next = free + 1;
-    put_children(boxes, parts, p, free, next, first, half, rest, left, right);
+    put_children(
+        boxes,
+        parts,
+        p,
+        free,
+        free + 1,
+        first,
+        half,
+        rest,
+        left,
+        right,
+    );
     reads
 }
 
@@ -147,8 +154,5 @@ pub fn build(
             free += 2;
         }
     }
-    Hierarchy {
-        nodes: free,
-        reads: reads,
-    }
+    Hierarchy { nodes: free, reads }
 }

@@ -18,7 +18,7 @@ pub fn node_count(n: usize) -> usize
         } else {
             greater = lesser + 2 * greater;
         }
-        size = size / 2;
+        size /= 2;
     }
     if size == 8 {
         return above + lesser + 3 * greater;

@@ -1,6 +1,9 @@
 -- A signed value that went through bits, `to_z w64 (of_z w64 z)`, as the machine leaves it in a goal. Assumes nothing.
 use Rattle.std.proofs.Common.{◌≡◌, ◌^◌, ◌<◌, ℤ, nat_abs, sym, ◌∙◌, subst, arith, to_z-of_z, w64, SFits, to_z, of_z}
+use Rattle.std.specs.Int.{int_min, int_max}
+use Rattle.integers.specs.Extremes.{min_z, max_z}
 use Rattle.integers.proofs.Order.{abs_parts, mag_parts}
+use Rattle.integers.proofs.Signs.{int_min-min, int_max-max}
 
 -- read back
 abbrev pub rd : ℤ → ℤ
@@ -31,3 +34,10 @@ val₁ f a fa h = val₂ (λ x y. f x) a a fa fa h
 -- a callee's result, stored, where the callee was passed a and b
 pub got₂ : (f : ℤ → ℤ → ℤ) (a b r : ℤ) → SFits w64 a → SFits w64 b → SFits w64 r → r ≡ f (rd a) (rd b) → rd r ≡ f a b
 got₂ f a b r fa fb fr e = rd_is r fr ∙ e ∙ read₂ f a b fa fb
+
+-- the library's least and greatest of two values
+pub least : (a b r : ℤ) → SFits w64 a → SFits w64 b → SFits w64 r → r ≡ int_min (rd a) (rd b) → rd r ≡ min_z a b
+least a b r fa fb fr e = got₂ int_min a b r fa fb fr e ∙ int_min-min a b
+
+pub greatest : (a b r : ℤ) → SFits w64 a → SFits w64 b → SFits w64 r → r ≡ int_max (rd a) (rd b) → rd r ≡ max_z a b
+greatest a b r fa fb fr e = got₂ int_max a b r fa fb fr e ∙ int_max-max a b

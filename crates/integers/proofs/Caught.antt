@@ -2,12 +2,13 @@
 -- Assumes nothing.
 use Rattle.std.proofs.Common.{◌≡◌, ℕ, ◌*◌, ◌^◌, ◌<◌, Bool, true, false, pos, negsuc, ◌-ℤ◌, refl, arith}
 use Rattle.integers.specs.Halves.{ceiling_half}
+use Rattle.std.specs.Int.{from_bool}
 use Rattle.integers.specs.declared.Sign.TheVariants.{Negative, Positive}
 use Rattle.integers.specs.declared.Signed.{Signed}
 use Rattle.integers.specs.declared.Wide.{Wide}
 use Rattle.integers.specs.declared.SignedWide.{SignedWide}
 use Rattle.integers.specs.Signs.{sign_of}
-use Rattle.integers.specs.Words.{bit, value_of, size_of, word_pair, wide_value_of, top_bit}
+use Rattle.integers.specs.Words.{value_of, size_of, word_pair, wide_value_of, top_bit}
 use Rattle.integers.proofs.Borrows.{size_small}
 use Rattle.integers.proofs.Order.{zarith, sub_parts}
 
@@ -25,7 +26,7 @@ unfolding size_of
 no_high_word = refl
 
 -- what is less than k with a borrow of k, and what it is, show in the value
-parted : (b c : Bool) (m n k : ℕ) → m < k → n < k → pos m -ℤ pos (bit b * k) ≡ pos n -ℤ pos (bit c * k) → (b ≡ c) × (m ≡ n)
+parted : (b c : Bool) (m n k : ℕ) → m < k → n < k → pos m -ℤ pos (from_bool b * k) ≡ pos n -ℤ pos (from_bool c * k) → (b ≡ c) × (m ≡ n)
 parted true true m n k h g e = (refl, omega (zarith, sub_parts (pos m) (pos (1 * k)), sub_parts (pos n) (pos (1 * k))))
 parted true false m n k h g e = absurd (omega (zarith, sub_parts (pos m) (pos (1 * k)), sub_parts (pos n) (pos (0 * k))))
 parted false true m n k h g e = absurd (omega (zarith, sub_parts (pos m) (pos (0 * k)), sub_parts (pos n) (pos (1 * k))))

@@ -1,10 +1,9 @@
 -- The floor and ceiling halves are the ones of the textbook: 2 ⌊z / 2⌋ ≤ z < 2 ⌊z / 2⌋ + 2, 2 ⌈z / 2⌉ − 2 < z ≤ 2 ⌈z / 2⌉,
 -- and no other number is so. Assumes nothing.
-use Rattle.std.proofs.Common.{◌≡◌, zero, suc, ◌+◌, ◌*◌, ◌/◌, ◌≤◌, ℤ, pos, negsuc, ◌+ℤ◌, ◌-ℤ◌, ◌≤ℤ◌, ◌<ℤ◌, refl, arith, w64, SFits}
-use lib.Signed.{shr_z}
+use Rattle.std.proofs.Common.{◌≡◌, zero, suc, ◌+◌, ◌*◌, ◌/◌, ◌≤◌, ℤ, pos, negsuc, ◌+ℤ◌, ◌-ℤ◌, ◌≤ℤ◌, ◌<ℤ◌, refl, arith}
 use Rattle.integers.specs.Halves.{floor_half, ceiling_half}
 use Rattle.integers.proofs.Differences.{up, dn}
-use Rattle.integers.proofs.Order.{zarith, add_parts, sub_parts, neg_parts, thin, mag_parts}
+use Rattle.integers.proofs.Order.{zarith, add_parts, sub_parts, neg_parts, thin}
 
 -- a remainder of 0 or 1 is left
 floor_parts : (z : ℤ) → (up z + 2 * dn (floor_half z) ≤ 2 * up (floor_half z) + dn z + 1) × (2 * up (floor_half z) + dn z ≤ up z + 2 * dn (floor_half z))
@@ -34,18 +33,3 @@ ceiling_above z = let c = ceiling_half z in
 pub ceiling_below : (z : ℤ) → (ceiling_half z +ℤ ceiling_half z) <ℤ (z +ℤ pos 2)
 ceiling_below z = let c = ceiling_half z in
     omega (zarith, floor_parts z, halves z, sub_parts z (floor_half z), add_parts c c, add_parts z (pos 2))
-
--- a shift that copies the sign bit is the floor half
-pub shift : (z : ℤ) → shr_z z 2 ≡ floor_half z
-shift (pos n) = refl
-shift (negsuc n) = refl
-
--- they fit where the number does
-pub floor_fits : (z : ℤ) → SFits w64 z → SFits w64 (floor_half z)
-floor_fits (pos n) f = record { sfits = omega (arith, f.sfits) }
-floor_fits (negsuc n) f = record { sfits = omega (arith, f.sfits) }
-
-pub ceiling_fits : (z : ℤ) → SFits w64 z → SFits w64 (z -ℤ floor_half z)
-ceiling_fits z f =
-    let h = z -ℤ floor_half z in
-    record { sfits = omega (arith, f.sfits, mag_parts z, mag_parts h, sub_parts z (floor_half z), floor_parts z, thin z, thin h) }

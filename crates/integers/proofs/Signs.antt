@@ -1,6 +1,7 @@
 -- Laws of signs: of products, negations and differences; tests of order by the sign of a difference. Assumes nothing.
 use Rattle.std.proofs.Common.{◌≡◌, ℕ, zero, suc, ◌+◌, ◌*◌, Bool, true, false, cond, not, ◌||◌, T, ◌⊎◌, ℤ, pos, negsuc, ◌-ℤ◌, ◌*ℤ◌, neg_ℤ, ◌≤ℤ◌, ◌<ℤ◌, refl, ap, inl, inr, mul-zero, zero-mul, arith}
 use lib.Signed.{le_z, lt_z}
+use Rattle.std.specs.Int.{int_min, int_max}
 use Rattle.integers.specs.declared.Sign.{Sign}
 use Rattle.integers.specs.declared.Sign.TheVariants.{Negative, Zero, Positive}
 use Rattle.integers.specs.Extremes.{min_z, max_z}
@@ -118,23 +119,6 @@ ge_sign x y = go (sign_of (x -ℤ y)) (sign_has (x -ℤ y))
     go Zero h = le_true y x (omega (zarith, sub_parts x y))
     go Positive h = le_true y x (omega (zarith, sub_parts x y))
 
--- against zero
-pub positive_sign : (x : ℤ) → lt_z (pos 0) x ≡ is_positive (sign_of x)
-positive_sign x = go (sign_of x) (sign_has x)
-  where
-    go : (s : Sign) → Has s x → lt_z (pos 0) x ≡ is_positive s
-    go Negative h = lt_false (pos 0) x (omega zarith)
-    go Zero h = lt_false (pos 0) x (omega zarith)
-    go Positive h = lt_true (pos 0) x (omega zarith)
-
-pub negative_sign : (x : ℤ) → lt_z x (pos 0) ≡ is_negative (sign_of x)
-negative_sign x = go (sign_of x) (sign_has x)
-  where
-    go : (s : Sign) → Has s x → lt_z x (pos 0) ≡ is_negative s
-    go Negative h = lt_true x (pos 0) (omega zarith)
-    go Zero h = lt_false x (pos 0) (omega zarith)
-    go Positive h = lt_false x (pos 0) (omega zarith)
-
 -- ---- the lesser and the greater of two
 pub le_min : (x y p : ℤ) → le_z (min_z x y) p ≡ (le_z x p || le_z y p)
 le_min x y p = go (le_view x y) (le_view x p) (le_view y p)
@@ -159,6 +143,21 @@ le_max x y p = go (le_view x y) (le_view p x) (le_view p y)
     go (is_gt h) (is_le g) k = le_true p x g
     go (is_gt h) (is_gt g) (is_le k) = absurd (omega zarith)
     go (is_gt h) (is_gt g) (is_gt k) = le_false p x g
+
+-- the library's least and greatest are these
+pub int_min-min : (x y : ℤ) → int_min x y ≡ min_z x y
+int_min-min x y = go (le_view x y)
+  where
+    go : {b : Bool} → LeView x y b → cond (lt_z y x) y x ≡ cond b x y
+    go (is_le h) = rw (lt_false y x h)
+    go (is_gt h) = rw (lt_true y x h)
+
+pub int_max-max : (x y : ℤ) → int_max x y ≡ max_z x y
+int_max-max x y = go (le_view x y)
+  where
+    go : {b : Bool} → LeView x y b → cond (lt_z y x) x y ≡ cond b y x
+    go (is_le h) = rw (lt_false y x h)
+    go (is_gt h) = rw (lt_true y x h)
 
 pub min_parts : (x y : ℤ) → (min_z x y ≤ℤ x) × (min_z x y ≤ℤ y)
 min_parts x y = go (le_view x y)

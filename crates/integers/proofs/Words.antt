@@ -1,27 +1,9 @@
 -- The product of two words, a size of 0, and how far a number lies above the least of 64 bits. Assumes nothing.
-use Rattle.std.proofs.Common.{◌≡◌, ℕ, zero, suc, ◌+◌, ◌-◌, ◌*◌, ◌/◌, ◌%◌, ◌^◌, ◌<◌, ◌≤◌, ◌&&◌, eqb, ℤ, pos, negsuc, ◌+ℤ◌, ◌-ℤ◌, nat_abs, ◌≤ℤ◌, ◌<ℤ◌, sym, refl, ap, ◌∙◌, mul_assoc, mul_comm, add-mul, mul-le-mul, div-add-mod', mul-add, arith, w64, SFits, ne_eqb}
-use lib.Signed.{mag}
-use Rattle.integers.proofs.Order.{zarith, add_parts, sub_parts}
+use Rattle.std.proofs.Common.{◌≡◌, ℕ, zero, suc, ◌+◌, ◌*◌, ◌^◌, ◌<◌, ◌≤◌, ◌&&◌, eqb, sym, refl, ap, ◌∙◌, mul-le-mul, arith, ne_eqb}
 
 -- ---- the product by columns
 abbrev pub half : ℕ
 half = 4294967296
-
--- a · B · b is a · b · B
-swap : (a b : ℕ) → a * half * b ≡ a * b * half
-swap a b = mul_assoc a half b ∙ ap (λ (x : ℕ). a * x) (mul_comm half b) ∙ sym (mul_assoc a b half)
-
-four : (a b c d : ℕ) → (a + b) * (c + d) ≡ a * c + a * d + (b * c + b * d)
-four a b c d = add-mul a b (c + d) ∙ (λ i. mul-add a c d i + mul-add b c d i)
-
--- (a B + b) · (c B + d), by columns
-columns : (a b c d : ℕ) → (a * half + b) * (c * half + d) ≡ (a * c * half + (a * d + b * c)) * half + b * d
-columns a b c d =
-    let e : a * half * (c * half) ≡ a * c * half * half = sym (mul_assoc (a * half) c half) ∙ ap (λ (x : ℕ). x * half) (swap a c) in
-    omega (arith, four (a * half) b (c * half) d, e, swap a d, sym (mul_assoc b c half))
-
-pub by_columns : (u v : ℕ) → ((u / half) * (v / half) * half + ((u / half) * (v % half) + (u % half) * (v / half))) * half + (u % half) * (v % half) ≡ u * v
-by_columns u v = sym (columns (u / half) (u % half) (v / half) (v % half)) ∙ (λ i. div-add-mod' u half i * div-add-mod' v half i)
 
 -- two half words
 pub column_fits : (a b : ℕ) → a < half → b < half → a * b ≤ 18446744065119617025
@@ -32,20 +14,3 @@ pub both_zero : (hi lo : ℕ) → eqb hi 0 && eqb lo 0 ≡ eqb (hi * 2 ^ 64 + lo
 both_zero zero zero = refl
 both_zero zero (suc lo) = ne_eqb (suc lo) 0 (λ e. omega arith) ∙ sym (ne_eqb (0 * 2 ^ 64 + suc lo) 0 (λ e. omega arith))
 both_zero (suc hi) lo = ap (λ t. t && eqb lo 0) (ne_eqb (suc hi) 0 (λ e. omega arith)) ∙ sym (ne_eqb (suc hi * 2 ^ 64 + lo) 0 (λ e. omega arith))
-
--- ---- how far a number lies above the least of 64 bits
-pub mirrored : (z : ℤ) → z <ℤ pos 0 → negsuc 0 -ℤ z ≡ pos (mag z)
-mirrored (pos n) h = absurd (omega zarith)
-mirrored (negsuc n) h = omega (zarith, sub_parts (negsuc 0) (negsuc n))
-
-pub above_negative : (z : ℤ) → z <ℤ pos 0 → SFits w64 z → pos (9223372036854775807 - mag z) ≡ z +ℤ pos (2 ^ 63)
-above_negative (pos n) h f = absurd (omega zarith)
-above_negative (negsuc n) h f = omega (zarith, f.sfits, add_parts (negsuc n) (pos (2 ^ 63)))
-
-pub other_size : (z : ℤ) → pos 0 ≤ℤ z → nat_abs z ≡ mag z
-other_size (pos n) h = refl
-other_size (negsuc n) h = absurd (omega zarith)
-
-pub above_other : (z : ℤ) → pos 0 ≤ℤ z → pos (9223372036854775808 + nat_abs z) ≡ z +ℤ pos (2 ^ 63)
-above_other (pos n) h = omega (zarith, add_parts (pos n) (pos (2 ^ 63)))
-above_other (negsuc n) h = absurd (omega zarith)

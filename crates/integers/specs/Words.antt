@@ -1,17 +1,13 @@
 -- What words with a borrow stand for (document 02, R-2).
-use Rattle.std.specs.Prelude.{ℕ, ◌+◌, ◌*◌, ◌^◌, Bool, true, false, ℤ, pos, ◌-ℤ◌, nat_le}
+use Rattle.std.specs.Prelude.{ℕ, ◌+◌, ◌*◌, ◌^◌, Bool, ℤ, pos, ◌-ℤ◌, nat_le}
+use Rattle.std.specs.Int.{from_bool}
 use Rattle.integers.specs.declared.Signed.{Signed}
 use Rattle.integers.specs.declared.Wide.{Wide}
 use Rattle.integers.specs.declared.SignedWide.{SignedWide}
 
--- 1 where a flag is set
-abbrev pub bit : Bool → ℕ
-bit true = 1
-bit false = 0
-
 -- a word, less 2^64 where the word above was borrowed from
 abbrev pub value_of : Signed → ℤ
-value_of s = pos s.word -ℤ pos (bit s.borrow * 2 ^ 64)
+value_of s = pos s.word -ℤ pos (from_bool s.borrow * 2 ^ 64)
 
 -- hi · 2^64 + lo
 unfoldable pub size_of : Wide → ℕ
@@ -23,7 +19,7 @@ word_pair = 2 ^ 64 * 2 ^ 64
 
 -- hi · 2^64 + lo, less 2^128 where the word above was borrowed from
 unfoldable pub wide_value_of : SignedWide → ℤ
-wide_value_of d = pos (size_of d.words) -ℤ pos (bit d.borrow * word_pair)
+wide_value_of d = pos (size_of d.words) -ℤ pos (from_bool d.borrow * word_pair)
 
 -- the top bit of two words
 abbrev pub top_bit : Wide → Bool

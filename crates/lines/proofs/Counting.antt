@@ -2,20 +2,17 @@
 use mathlib.Core.Path.{◌≡◌, refl, sym, ap, ap₂, ◌∙◌}
 use mathlib.Core.Bool.{Bool, true, false, cond}
 use mathlib.Core.List.{List, [], ◌∷◌, ◌++◌}
-use Prim.Native.Nat.{ℕ, suc, ◌+◌, ◌/◌, ◌<◌, ◌≤◌}
+use Prim.Native.Nat.{ℕ, suc, ◌+◌, ◌/◌}
 use native.Mathlib.Omega.{arith}
-use lib.Dec.{ltb}
 use lib.IntN.{ℤ}
-use lib.ListN.{length, drop, length-append, length-drop}
-use borrow.Author.Tests.{lt-ltb, le-ltb}
+use lib.ListN.{length, length-append}
 use Rattle.rules.specs.declared.Kind.TheVariants.{Polygons}
 use Rattle.rules.specs.Plans.{Plan}
 use Rattle.lines.specs.declared.records.Record.{Record}
 use Rattle.lines.specs.declared.records.Record.TheVariants.{Header, Outer, Hole, Node, Corner, Malformed}
-use Rattle.lines.specs.declared.stages.Stage as Stage
-use Rattle.lines.specs.declared.stages.Stage.{Stage}
-use Rattle.lines.specs.Plans.{Meaning, start_meaning, gives_meaning, broken_meaning, size_of, empty_plan, last_one_more, grown, is_header, allowed, after_line, at_end}
-use Rattle.lines.specs.Steps.{size_after, stage_of, stage_after, stage_at_end}
+use Rattle.std.specs.Prelude.{Option, Some, None, Ok, option_map}
+use Rattle.lines.specs.Plans.{Meaning, start_meaning, gives_meaning, broken_meaning, size_of, empty_plan, last_one_more, grown, is_header, allowed, after_line}
+use Rattle.lines.specs.Steps.{size_after, bad_line, stage_of, stage_after}
 
 pub one_longer : {A : Type 0} (xs : List A) (x : A) → length (xs ++ x ∷ []) ≡ length xs + 1
 one_longer xs x = length-append xs (x ∷ [])
@@ -45,33 +42,15 @@ by_test : (b : Bool) (x y : Meaning) → cond b (stage_of x) (stage_of y) ≡ st
 by_test true x y = refl
 by_test false x y = refl
 
-pub stage_after_lem : (k : ℕ) (so_far : Meaning) (row : Record) → stage_after k (stage_of so_far) row ≡ stage_of (after_line k so_far row)
-stage_after_lem k start_meaning row =
-    ap (λ counts. cond (is_header row) (Stage.TheVariants.Gives counts) (Stage.TheVariants.Broken k)) (size_grown (empty_plan Polygons) row)
+-- the meaning of lines none of which broke a rule
+abbrev pub unbroken : Option Plan → Meaning
+unbroken None = start_meaning
+unbroken (Some plan) = gives_meaning plan
+
+pub stage_after_lem : (k : ℕ) (so_far : Option Plan) (row : Record) → stage_after k (option_map size_of so_far) row ≡ stage_of (after_line k (unbroken so_far) row)
+stage_after_lem k None row =
+    ap (λ counts. cond (is_header row) (Ok counts) (bad_line k)) (size_grown (empty_plan Polygons) row)
     ∙ by_test (is_header row) (gives_meaning (grown (empty_plan Polygons) row)) (broken_meaning k)
-stage_after_lem k (gives_meaning plan) row =
-    ap (λ counts. cond (allowed (size_of plan) row) (Stage.TheVariants.Gives counts) (Stage.TheVariants.Broken k)) (size_grown plan row)
+stage_after_lem k (Some plan) row =
+    ap (λ counts. cond (allowed (size_of plan) row) (Ok counts) (bad_line k)) (size_grown plan row)
     ∙ by_test (allowed (size_of plan) row) (gives_meaning (grown plan row)) (broken_meaning k)
-stage_after_lem k (broken_meaning j) row = refl
-
-at_end_empty : (k : ℕ) (so_far : Meaning) → stage_at_end k (stage_of so_far) false ≡ stage_of (at_end k so_far [])
-at_end_empty k start_meaning = refl
-at_end_empty k (gives_meaning plan) = refl
-at_end_empty k (broken_meaning j) = refl
-
-at_end_unended : (k : ℕ) (so_far : Meaning) (x : ℕ) (xs : List ℕ) → stage_at_end k (stage_of so_far) true ≡ stage_of (at_end k so_far (x ∷ xs))
-at_end_unended k start_meaning x xs = refl
-at_end_unended k (gives_meaning plan) x xs = refl
-at_end_unended k (broken_meaning j) x xs = refl
-
--- the last piece, where the search for a line end from its start came to the text's end
-pub stage_at_end_lem : (k : ℕ) (so_far : Meaning) (text : List ℕ) (from end : ℕ) → from ≤ length text → end ≡ length text → stage_at_end k (stage_of so_far) (ltb from end) ≡ stage_of (at_end k so_far (drop from text))
-stage_at_end_lem k so_far text from end h e = go (drop from text) refl
-  where
-    go : (last : List ℕ) → drop from text ≡ last → stage_at_end k (stage_of so_far) (ltb from end) ≡ stage_of (at_end k so_far last)
-    go [] p =
-        let none : end ≤ from = let l = length-drop from text in let z = ap length p in omega arith in
-        ap (stage_at_end k (stage_of so_far)) (le-ltb from end none) ∙ at_end_empty k so_far
-    go (x ∷ xs) p =
-        let some : from < end = let l = length-drop from text in let z = ap length p in omega arith in
-        ap (stage_at_end k (stage_of so_far)) (lt-ltb from end some) ∙ at_end_unended k so_far x xs

@@ -7,12 +7,12 @@ use native.Mathlib.Omega.{arith}
 use lib.Dec.{eqb}
 use lib.ListN.{length}
 use borrow.Author.Tests.{eq-eqb, ne_eqb}
-use Rattle.rules.specs.declared.Verdict.TheVariants.{Accepted}
 use Rattle.rules.specs.Lists.{any_of, total, is_odd}
 use Rattle.rules.specs.Plans.{Plan, corner_count, is_list, uneven, plan_verdict}
 use Rattle.rules.proofs.Verdicts.{few_enough, accepted_else}
 use Rattle.lines.specs.Plans.{gives_meaning, meaning}
 use Rattle.lines.proofs.Sensible.{Fine, Sensible, meaning_fine, fewer_polygons}
+use Rattle.rules.specs.Answering.{Accepted}
 
 -- what a text of the largest size can hold: 9,360 corners, 13,106 rings, 10,921 polygons
 pub record Largest (plan : Plan) : Type 0 where

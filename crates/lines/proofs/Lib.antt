@@ -1,4 +1,3 @@
-pub mod FieldSearch
 pub mod Counting
 pub mod LineByLine
 pub mod Spans

@@ -1,20 +1,13 @@
 -- The meaning of a text, a line at a time. Assumes nothing.
-use mathlib.Core.Path.{◌≡◌, sym, ap, ◌∙◌}
+use mathlib.Core.Path.{◌≡◌, refl, sym, ap, ◌∙◌}
 use mathlib.Core.List.{List, [], ◌∷◌}
-use Prim.Native.Nat.{ℕ, suc, ◌+◌, ◌-◌, ◌<◌, ◌≤◌}
+use Prim.Native.Nat.{ℕ, suc, ◌+◌}
 use native.Mathlib.Numerals.{add-one}
 use native.Mathlib.Omega.{arith}
-use lib.ListN.{length, take, drop}
-use Rattle.fields.specs.Pieces.{up_to, split}
-use Rattle.fields.proofs.Pieces.{piece_cut, piece_last}
-use Rattle.lines.specs.declared.records.Record.{Record}
+use Rattle.fields.specs.Pieces.{split, Parted}
 use Rattle.lines.specs.Plans.{Meaning, start_meaning, gives_meaning, broken_meaning, after_line, at_end, after_lines, meaning}
 use Rattle.lines.specs.Records.{record_of}
-use Rattle.lines.proofs.FieldSearch.{some_piece}
-
--- the line that stands from `from` to `end`
-abbrev pub row_at : List ℕ → ℕ → ℕ → Record
-row_at text from end = record_of (split 9 (take (end - from) (drop from text)))
+use Rattle.fields.proofs.Pieces.{some_piece}
 
 one_line : (k : ℕ) (so_far : Meaning) (line : List ℕ) (separator : ℕ) (s : List ℕ) → after_lines k so_far (line ∷ split separator s) ≡ after_lines (suc k) (after_line k so_far (record_of (split 9 line))) (split separator s)
 unfolding after_lines
@@ -22,15 +15,23 @@ one_line k so_far line separator s =
     let p = some_piece separator s in
     ap (λ pieces. after_lines k so_far (line ∷ pieces)) p.are ∙ sym (ap (after_lines (suc k) (after_line k so_far (record_of (split 9 line)))) p.are)
 
-pub next_line : (k : ℕ) (so_far : Meaning) (text : List ℕ) (from end : ℕ) → end ≡ from + up_to 10 (drop from text) → end < length text → after_lines k so_far (split 10 (drop from text)) ≡ after_lines (k + 1) (after_line k so_far (row_at text from end)) (split 10 (drop (end + 1) text))
-next_line k so_far text from end e h =
-    ap (after_lines k so_far) (piece_cut 10 text from end e h)
-    ∙ one_line k so_far (take (end - from) (drop from text)) 10 (drop (end + 1) text)
-    ∙ ap (λ j. after_lines j (after_line k so_far (row_at text from end)) (split 10 (drop (end + 1) text))) (sym (add-one k))
+-- the first line, and the lines after it
+pub next_line : (k : ℕ) (so_far : Meaning) (text row after : List ℕ) → Parted 10 text row after → after_lines k so_far (split 10 text) ≡ after_lines (k + 1) (after_line k so_far (record_of (split 9 row))) (split 10 after)
+next_line k so_far text row after p =
+    ap (after_lines k so_far) p.pieces
+    ∙ one_line k so_far row 10 after
+    ∙ ap (λ j. after_lines j (after_line k so_far (record_of (split 9 row))) (split 10 after)) (sym (add-one k))
 
-pub last_line : (k : ℕ) (so_far : Meaning) (text : List ℕ) (from end : ℕ) → from ≤ length text → end ≡ from + up_to 10 (drop from text) → length text ≤ end → after_lines k so_far (split 10 (drop from text)) ≡ at_end k so_far (drop from text)
+pub last_line : (k : ℕ) (so_far : Meaning) (text : List ℕ) → split 10 text ≡ text ∷ [] → after_lines k so_far (split 10 text) ≡ at_end k so_far text
 unfolding after_lines
-last_line k so_far text from end h e g = ap (after_lines k so_far) (piece_last 10 text from end h e g)
+last_line k so_far text e = ap (after_lines k so_far) e
+
+-- a text stays broken
+pub stays_broken : (k j : ℕ) (pieces : List (List ℕ)) → after_lines k (broken_meaning j) pieces ≡ broken_meaning j
+unfolding after_lines
+stays_broken k j [] = refl
+stays_broken k j (last ∷ []) = refl
+stays_broken k j (line ∷ next ∷ pieces) = stays_broken (suc k) j (next ∷ pieces)
 
 -- ---- no text comes to `Start`: its last piece has a say
 

@@ -7,7 +7,7 @@ use native.Mathlib.Omega.{arith}
 use lib.Dec.{eqb}
 use lib.IntN.{ℤ}
 use lib.ListN.{length}
-use Rattle.fields.specs.declared.Number.{Number}
+use Rattle.std.specs.Prelude.{Option, Some, None}
 use Rattle.fields.specs.Bytes.{same_bytes}
 use Rattle.fields.specs.Decimals.{number_of}
 use Rattle.fields.specs.Pieces.{before, split}
@@ -17,7 +17,7 @@ use Rattle.lines.specs.declared.records.Record.{Record}
 use Rattle.lines.specs.declared.records.Record.TheVariants.{Header, Outer, Hole, Node, Corner, Malformed}
 use Rattle.lines.specs.Words.{plan, list, tree, outer, hole, node, at}
 use Rattle.lines.specs.Records.{one_field, two_fields, corner_from, three_fields, record_of}
-use Rattle.lines.proofs.FieldSearch.{Pieces, some_piece}
+use Rattle.fields.proofs.Pieces.{Pieces, some_piece}
 
 -- ---- pieces with a separator between each two
 
@@ -78,18 +78,18 @@ two_words word kind =
     by_word word plan _ _ (length word) (λ l. by_word kind list _ _ (length word) (λ m. omega arith) (by_word kind tree _ _ (length word) (λ m. omega arith) (omega arith))) (omega arith)
 
 -- a number is some byte long
-number_long : (field : List ℕ) (z : ℤ) → number_of field ≡ Number.Is z → 1 ≤ length field
+number_long : (field : List ℕ) (z : ℤ) → number_of field ≡ Some z → 1 ≤ length field
 number_long [] z e = absurd (unread (no_number [] refl ∙ e))
   where
-    unread : Number.Malformed ≡ Number.Is z → ⊥
+    unread : None ≡ Some z → ⊥
     unread p = let one : ◌≡◌ {A = ℕ} 0 1 = cc in omega arith
 number_long (x ∷ field) z e = omega arith
 
-corner_long : (x y : List ℕ) (m n : Number) → number_of x ≡ m → number_of y ≡ n → least (corner_from m n) ≤ 4 + length x + length y
-corner_long x y (Number.Is a) (Number.Is b) p q = let j = number_long x a p in let k = number_long y b q in omega arith
-corner_long x y (Number.Is a) Number.Malformed p q = omega arith
-corner_long x y Number.Malformed (Number.Is b) p q = omega arith
-corner_long x y Number.Malformed Number.Malformed p q = omega arith
+corner_long : (x y : List ℕ) (m n : Option ℤ) → number_of x ≡ m → number_of y ≡ n → least (corner_from m n) ≤ 4 + length x + length y
+corner_long x y (Some a) (Some b) p q = let j = number_long x a p in let k = number_long y b q in omega arith
+corner_long x y (Some a) None p q = omega arith
+corner_long x y None (Some b) p q = omega arith
+corner_long x y None None p q = omega arith
 
 three_words : (word x y : List ℕ) → least (three_fields word x y) ≤ length word + 1 + (length x + 1 + length y)
 unfolding three_fields

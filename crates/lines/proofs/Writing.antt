@@ -7,10 +7,10 @@ use Prim.Native.Nat.{ℕ, suc, ◌+◌, ◌-◌, ◌*◌, ◌/◌, ◌≤◌, �
 use native.Mathlib.Omega.{arith}
 use lib.Dec.{ltb}
 use lib.IntN.{ℤ, pos}
-use lib.ListN.{length, set, drop}
+use lib.ListN.{length, set}
 use borrow.Author.Tests.{ltb-true}
 use Rattle.geom.specs.declared.Point.{Point}
-use Rattle.fields.specs.Pieces.{up_to, split}
+use Rattle.fields.specs.Pieces.{split, Parted}
 use Rattle.rules.specs.declared.Kind.TheVariants.{Polygons}
 use Rattle.rules.specs.Lists.{total}
 use Rattle.rules.specs.Plans.{Plan, is_list}
@@ -22,8 +22,7 @@ use Rattle.lines.specs.Plans.{Meaning, start_meaning, gives_meaning, broken_mean
 use Rattle.lines.specs.Stored.{plan_in, starting_with}
 use Rattle.lines.specs.Steps.{empty_size, size_after, Countable, RoomBefore, corners_with, CornerRoom, lengths_with, LengthRoom, counts_with, CountRoom, Ready}
 use Rattle.lines.proofs.Counting.{one_longer, two_longer, as_long, size_grown}
-use Rattle.lines.proofs.LineByLine.{row_at}
-use Rattle.lines.proofs.Judging.{Reached, begun, onward, over}
+use Rattle.lines.proofs.Judging.{row_of, Reached, begun, onward, over}
 use Rattle.lines.proofs.Sensible.{Fine, part_of_total, fewer_polygons}
 use Rattle.lines.proofs.Stores.{length_starting, pushed, counted_on_lem, number_held}
 
@@ -243,52 +242,52 @@ whole text corners lengths counts h = go (meaning text) refl h
     go (gives_meaning plan) e r = record { final = plan; is = e; corners_fit = r.0; lengths_fit = r.1; counts_fit = r.2 }
     go (broken_meaning line) e r = absurd r
 
-pub record Writing (text : List ℕ) (corners₀ : List ℤ) (lengths₀ counts₀ : List ℕ) (corners : List ℤ) (lengths counts : List ℕ) (done : Size) (from end : ℕ) : Type 0 where
+pub record Writing (text : List ℕ) (corners₀ : List ℤ) (lengths₀ counts₀ : List ℕ) (corners : List ℤ) (lengths counts : List ℕ) (done : Size) (rest : List ℕ) : Type 0 where
   pub so_far : Meaning
   pub line : ℕ
-  pub reached : Reached text so_far line from end
+  pub reached : Reached text so_far line rest
   pub counted : done ≡ size_of (plan_in so_far)
   pub corners_held : corners ≡ starting_with (plan_in so_far).coordinates corners₀
   pub lengths_held : lengths ≡ starting_with (plan_in so_far).lengths lengths₀
   pub counts_held : counts ≡ starting_with (plan_in so_far).counts counts₀
 
-pub writing_begun : (text : List ℕ) (corners : List ℤ) (lengths counts : List ℕ) (done : Size) (end : ℕ) → done ≡ empty_size Polygons → end ≡ 0 + up_to 10 (drop 0 text) → Writing text corners lengths counts corners lengths counts done 0 end
-writing_begun text corners lengths counts done end d e = record { so_far = start_meaning; line = 1; reached = begun text end e; counted = d; corners_held = refl; lengths_held = refl; counts_held = refl }
+pub writing_begun : (text : List ℕ) (corners : List ℤ) (lengths counts : List ℕ) (done : Size) → done ≡ empty_size Polygons → Writing text corners lengths counts corners lengths counts done text
+writing_begun text corners lengths counts done d = record { so_far = start_meaning; line = 1; reached = begun text; counted = d; corners_held = refl; lengths_held = refl; counts_held = refl }
 
-module _ (text : List ℕ) (corners₀ : List ℤ) (lengths₀ counts₀ : List ℕ) (small : length text ≤ 65536) (w : Whole text (length corners₀) (length lengths₀) (length counts₀)) (corners : List ℤ) (lengths counts : List ℕ) (done : Size) (from end : ℕ) (g : Writing text corners₀ lengths₀ counts₀ corners lengths counts done from end) where
+module _ (text : List ℕ) (corners₀ : List ℤ) (lengths₀ counts₀ : List ℕ) (small : length text ≤ 65536) (w : Whole text (length corners₀) (length lengths₀) (length counts₀)) (corners : List ℤ) (lengths counts : List ℕ) (done : Size) (rest : List ℕ) (g : Writing text corners₀ lengths₀ counts₀ corners lengths counts done rest) where
   -- at the text's end the tables start with its plan
-  all_read : length text ≤ end → plan_in g.so_far ≡ plan_in (meaning text)
+  all_read : split 10 rest ≡ rest ∷ [] → plan_in g.so_far ≡ plan_in (meaning text)
   all_read h =
-      let e : g.so_far ≡ gives_meaning w.final = ended g.line g.so_far (drop from text) w.final (sym (over text g.so_far g.line from end g.reached h) ∙ w.is) in
+      let e : g.so_far ≡ gives_meaning w.final = ended g.line g.so_far rest w.final (sym (over text g.so_far g.line rest g.reached h) ∙ w.is) in
       ap plan_in (e ∙ sym w.is)
 
-  pub corners_written : length text ≤ end → corners ≡ starting_with (plan_in (meaning text)).coordinates corners₀
+  pub corners_written : split 10 rest ≡ rest ∷ [] → corners ≡ starting_with (plan_in (meaning text)).coordinates corners₀
   corners_written h = g.corners_held ∙ ap (λ plan. starting_with plan.coordinates corners₀) (all_read h)
 
-  pub lengths_written : length text ≤ end → lengths ≡ starting_with (plan_in (meaning text)).lengths lengths₀
+  pub lengths_written : split 10 rest ≡ rest ∷ [] → lengths ≡ starting_with (plan_in (meaning text)).lengths lengths₀
   lengths_written h = g.lengths_held ∙ ap (λ plan. starting_with plan.lengths lengths₀) (all_read h)
 
-  pub counts_written : length text ≤ end → counts ≡ starting_with (plan_in (meaning text)).counts counts₀
+  pub counts_written : split 10 rest ≡ rest ∷ [] → counts ≡ starting_with (plan_in (meaning text)).counts counts₀
   counts_written h = g.counts_held ∙ ap (λ plan. starting_with plan.counts counts₀) (all_read h)
 
-  pub corners_kept : length text ≤ end → length corners ≡ length corners₀
+  pub corners_kept : split 10 rest ≡ rest ∷ [] → length corners ≡ length corners₀
   corners_kept h = ap length (corners_written h ∙ ap (λ m. starting_with (plan_in m).coordinates corners₀) w.is) ∙ length_starting w.final.coordinates corners₀ w.corners_fit
 
-  pub lengths_kept : length text ≤ end → length lengths ≡ length lengths₀
+  pub lengths_kept : split 10 rest ≡ rest ∷ [] → length lengths ≡ length lengths₀
   lengths_kept h = ap length (lengths_written h ∙ ap (λ m. starting_with (plan_in m).lengths lengths₀) w.is) ∙ length_starting w.final.lengths lengths₀ w.lengths_fit
 
-  pub counts_kept : length text ≤ end → length counts ≡ length counts₀
+  pub counts_kept : split 10 rest ≡ rest ∷ [] → length counts ≡ length counts₀
   counts_kept h = ap length (counts_written h ∙ ap (λ m. starting_with (plan_in m).counts counts₀) w.is) ∙ length_starting w.final.counts counts₀ w.counts_fit
 
-  module _ (h : end < length text) (row : Record) (r : row ≡ row_at text from end) where
+  module _ (line after : List ℕ) (p : Parted 10 rest line after) (row : Record) (r : row ≡ row_of line) where
     -- the line is on the way to the plan
     on_the_way : Taken g.line g.so_far row w.final
     on_the_way =
-        let next = onward text g.so_far g.line from end g.reached h (end + 1 + up_to 10 (drop (end + 1) text)) refl in
-        subst (λ s. Taken g.line g.so_far s w.final) (sym r) (taken g.line g.so_far (row_at text from end) w.final (leads (g.line + 1) (after_line g.line g.so_far (row_at text from end)) (split 10 (drop (end + 1) text)) w.final (sym next.rest ∙ w.is)))
+        let next = onward text g.so_far g.line rest g.reached line after p in
+        subst (λ s. Taken g.line g.so_far s w.final) (sym r) (taken g.line g.so_far (row_of line) w.final (leads (g.line + 1) (after_line g.line g.so_far (row_of line)) (split 10 after) w.final (sym next.due ∙ w.is)))
 
     based : Base (plan_in g.so_far) row
-    based = let f = g.reached.few in base from g.so_far row (omega arith) g.reached.fine on_the_way.accepted
+    based = let f = g.reached.bytes in base g.reached.from g.so_far row (omega arith) g.reached.fine on_the_way.accepted
 
     ring_open : (p : Point) → row ≡ Corner p → 0 < length (plan_in g.so_far).lengths
     ring_open p e = open_ring g.so_far p (ap (accepts g.so_far) (sym e) ∙ on_the_way.accepted)
@@ -314,20 +313,20 @@ module _ (text : List ℕ) (corners₀ : List ℤ) (lengths₀ counts₀ : List 
     pub done_countable : Countable done
     done_countable = subst Countable (sym g.counted) (go g.so_far g.reached.fine on_the_way.accepted)
       where
-        go : (so_far : Meaning) → Fine from so_far → accepts so_far row ≡ true → Countable (size_of (plan_in so_far))
+        go : (so_far : Meaning) → Fine g.reached.from so_far → accepts so_far row ≡ true → Countable (size_of (plan_in so_far))
         go start_meaning f e = (omega arith, omega arith, omega arith)
-        go (gives_meaning plan) f e = let b = f.bytes in let v = f.even in let p = fewer_polygons from plan f in let few = g.reached.few in (omega arith, omega arith, omega arith)
+        go (gives_meaning plan) f e = let b = f.bytes in let v = f.even in let p = fewer_polygons g.reached.from plan f in let few = g.reached.bytes in (omega arith, omega arith, omega arith)
         go (broken_meaning j) f e = absurd (true≢false (sym e))
 
-    pub writing_onward : (corners' : List ℤ) (lengths' counts' : List ℕ) (done' : Size) (next : ℕ) → corners' ≡ corners_with done.corners row corners → lengths' ≡ lengths_with done.rings row lengths → counts' ≡ counts_with done.polygons row counts → done' ≡ size_after done row → next ≡ end + 1 + up_to 10 (drop (end + 1) text) → Writing text corners₀ lengths₀ counts₀ corners' lengths' counts' done' (end + 1) next
-    writing_onward corners' lengths' counts' done' next a b c d e =
+    pub writing_onward : (corners' : List ℤ) (lengths' counts' : List ℕ) (done' : Size) → corners' ≡ corners_with done.corners row corners → lengths' ≡ lengths_with done.rings row lengths → counts' ≡ counts_with done.polygons row counts → done' ≡ size_after done row → Writing text corners₀ lengths₀ counts₀ corners' lengths' counts' done' after
+    writing_onward corners' lengths' counts' done' a b c d =
         let plan = plan_in g.so_far in
         let t = on_the_way in
-        let now : plan_in (after_line g.line g.so_far (row_at text from end)) ≡ grown plan row = ap (λ s. plan_in (after_line g.line g.so_far s)) (sym r) ∙ ap plan_in t.gives in
+        let now : plan_in (after_line g.line g.so_far (row_of line)) ≡ grown plan row = ap (λ s. plan_in (after_line g.line g.so_far s)) (sym r) ∙ ap plan_in t.gives in
         record {
-          so_far = after_line g.line g.so_far (row_at text from end);
+          so_far = after_line g.line g.so_far (row_of line);
           line = g.line + 1;
-          reached = onward text g.so_far g.line from end g.reached h next e;
+          reached = onward text g.so_far g.line rest g.reached line after p;
           counted = d ∙ ap (λ counts. size_after counts row) g.counted ∙ size_grown plan row ∙ ap size_of (sym now);
           corners_held = a ∙ ap (λ d. corners_with d.corners row corners) g.counted ∙ ap (corners_with (length plan.coordinates / 2) row) g.corners_held ∙ corners_after plan w.final row corners₀ based t.covers w.corners_fit ∙ ap (λ q. starting_with q.coordinates corners₀) (sym now);
           lengths_held = b ∙ ap (λ d. lengths_with d.rings row lengths) g.counted ∙ ap (lengths_with (length plan.lengths) row) g.lengths_held ∙ lengths_after plan w.final row lengths₀ based ring_open t.covers w.lengths_fit ∙ ap (λ q. starting_with q.lengths lengths₀) (sym now);

@@ -1,6 +1,5 @@
 -- What a line says by its fields (document 01, item 10).
-use Rattle.std.specs.Prelude.{cond, List, [], ◌∷◌, ℕ}
-use Rattle.fields.specs.declared.Number.{Number}
+use Rattle.std.specs.Prelude.{cond, List, [], ◌∷◌, ℕ, ℤ, Option, Some, None}
 use Rattle.fields.specs.Bytes.{same_bytes}
 use Rattle.fields.specs.Decimals.{number_of}
 use Rattle.rules.specs.declared.Kind.TheVariants.{Polygons, Tree}
@@ -17,10 +16,10 @@ unfoldable pub two_fields : List ℕ → List ℕ → Record
 two_fields word kind = cond (same_bytes word plan) (cond (same_bytes kind list) (Header Polygons) (cond (same_bytes kind tree) (Header Tree) Malformed)) Malformed
 
 -- a corner, where both fields are numbers
-abbrev pub corner_from : Number → Number → Record
-corner_from (Number.Is x) (Number.Is y) = Corner (record { x = x; y = y })
-corner_from (Number.Is x) Number.Malformed = Malformed
-corner_from Number.Malformed y = Malformed
+abbrev pub corner_from : Option ℤ → Option ℤ → Record
+corner_from (Some x) (Some y) = Corner (record { x = x; y = y })
+corner_from (Some x) None = Malformed
+corner_from None y = Malformed
 
 -- `at`, x, y
 unfoldable pub three_fields : List ℕ → List ℕ → List ℕ → Record

@@ -1,12 +1,11 @@
 -- Item 10 a line at a time as the code does it: by sizes alone, and as stores into the tables. Lemmas tie these to `Plans`.
-use Rattle.std.specs.Prelude.{◌≡◌, Bool, cond, List, ℕ, ◌+◌, ◌-◌, ◌*◌, ◌≤◌, ◌<◌, ℤ, length, get_or, set}
+use Rattle.std.specs.Prelude.{◌≡◌, cond, List, ℕ, ◌+◌, ◌-◌, ◌*◌, ◌≤◌, ◌<◌, ℤ, length, get_or, set, Option, Some, None, Result, Ok, Err}
 use Rattle.rules.specs.declared.Kind.{Kind}
 use Rattle.rules.specs.declared.Kind.TheVariants.{Polygons}
 use Rattle.lines.specs.declared.records.Record.{Record}
 use Rattle.lines.specs.declared.records.Record.TheVariants.{Header, Outer, Hole, Node, Corner, Malformed}
 use Rattle.lines.specs.declared.Size.{Size}
-use Rattle.lines.specs.declared.stages.Stage as Stage
-use Rattle.lines.specs.declared.stages.Stage.{Stage}
+use Rattle.lines.specs.declared.stages.BadLine.{BadLine}
 use Rattle.lines.specs.Plans.{Meaning, start_meaning, gives_meaning, broken_meaning, size_of, is_header, allowed}
 
 -- the size of a plan with nothing in it
@@ -33,49 +32,43 @@ broken_line start_meaning = 1
 broken_line (gives_meaning plan) = 0
 broken_line (broken_meaning line) = line
 
--- a meaning by its size
-abbrev pub stage_of : Meaning → Stage
-stage_of start_meaning = Stage.TheVariants.Start
-stage_of (gives_meaning plan) = Stage.TheVariants.Gives (size_of plan)
-stage_of (broken_meaning line) = Stage.TheVariants.Broken line
+-- 2 at this line
+abbrev pub bad_line : ℕ → Result Size BadLine
+bad_line k = Err (record { line = k })
 
--- 2 and its line where a line breaks a rule; a text without a line is broken in line 1
-abbrev pub stage_number : Stage → ℕ
-stage_number Stage.TheVariants.Start = 2
-stage_number (Stage.TheVariants.Gives size) = 0
-stage_number (Stage.TheVariants.Broken line) = 2
+-- a meaning by its size; a text without a line is broken in line 1
+abbrev pub stage_of : Meaning → Result Size BadLine
+stage_of start_meaning = bad_line 1
+stage_of (gives_meaning plan) = Ok (size_of plan)
+stage_of (broken_meaning line) = bad_line line
 
-abbrev pub stage_detail : Stage → ℕ
-stage_detail Stage.TheVariants.Start = 1
-stage_detail (Stage.TheVariants.Gives size) = 0
-stage_detail (Stage.TheVariants.Broken line) = line
+-- 2 and its line where a line breaks a rule
+abbrev pub stage_number : Result Size BadLine → ℕ
+stage_number (Ok size) = 0
+stage_number (Err bad) = 2
+
+abbrev pub stage_detail : Result Size BadLine → ℕ
+stage_detail (Ok size) = 0
+stage_detail (Err bad) = bad.line
 
 -- what a text comes to, by its meaning: the size of its plan, or 2 with the first line that breaks a rule
-pub record Judged (m : Meaning) (r : Stage) : Type 0 where
+pub record Judged (m : Meaning) (r : Result Size BadLine) : Type 0 where
   pub stage : r ≡ stage_of m
   pub number : stage_number r ≡ broken_number m
   pub detail : stage_detail r ≡ broken_line m
 
--- line k, ended
-abbrev pub stage_after : ℕ → Stage → Record → Stage
-stage_after k Stage.TheVariants.Start line = cond (is_header line) (Stage.TheVariants.Gives (size_after (empty_size Polygons) line)) (Stage.TheVariants.Broken k)
-stage_after k (Stage.TheVariants.Gives size) line = cond (allowed size line) (Stage.TheVariants.Gives (size_after size line)) (Stage.TheVariants.Broken k)
-stage_after k (Stage.TheVariants.Broken j) line = Stage.TheVariants.Broken j
-
--- the text's end, after which an unended line may stand
-abbrev pub stage_at_end : ℕ → Stage → Bool → Stage
-stage_at_end k Stage.TheVariants.Start unended = Stage.TheVariants.Broken k
-stage_at_end k (Stage.TheVariants.Gives size) unended = cond unended (Stage.TheVariants.Broken k) (Stage.TheVariants.Gives size)
-stage_at_end k (Stage.TheVariants.Broken j) unended = Stage.TheVariants.Broken j
+-- line k, ended, after a plan of this size or before the first line
+abbrev pub stage_after : ℕ → Option Size → Record → Result Size BadLine
+stage_after k None line = cond (is_header line) (Ok (size_after (empty_size Polygons) line)) (bad_line k)
+stage_after k (Some size) line = cond (allowed size line) (Ok (size_after size line)) (bad_line k)
 
 -- a size that can be counted on
 abbrev pub Countable : Size → Type 0
 Countable size = (size.corners ≤ 65536) × (size.rings ≤ 65536) × (size.polygons ≤ 65536)
 
-abbrev pub StageCountable : Stage → Type 0
-StageCountable Stage.TheVariants.Start = Unit {0}
-StageCountable (Stage.TheVariants.Gives size) = Countable size
-StageCountable (Stage.TheVariants.Broken line) = Unit {0}
+abbrev pub SoFarCountable : Option Size → Type 0
+SoFarCountable None = Unit {0}
+SoFarCountable (Some size) = Countable size
 
 -- ---- stores
 

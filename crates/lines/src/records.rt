@@ -3,7 +3,7 @@ ghost use Rattle.std.specs.Prelude.{◌≡◌};
 ghost use Rattle.fields.specs.Pieces.{split};
 ghost use Rattle.lines.specs.Records.{one_field, two_fields, three_fields, record_of};
 
-use fields::{Number, find, read_number, same};
+use fields::{read_number, split_once};
 use geom::Point;
 use rules::Kind;
 
@@ -24,77 +24,59 @@ pub enum Record {
     Malformed,
 }
 
-// A line of one word.
+// A line of one word. Bare `plan` is a list.
+#[tactic(auto, unfolding(crate::specs::Records::one_field))]
 fn one_field(word: &[u8]) -> Record
     ensures { result ≡ one_field word.now }
 {
-    // Bare `plan` is a list.
-    let bare = Kind::Polygons;
-    if same(word, b"plan") {
-        return Record::Header(bare);
+    match word {
+        b"plan" => Record::Header(Kind::Polygons),
+        b"outer" => Record::Outer,
+        b"hole" => Record::Hole,
+        b"node" => Record::Node,
+        _ => Record::Malformed,
     }
-    if same(word, b"outer") {
-        return Record::Outer;
-    }
-    if same(word, b"hole") {
-        return Record::Hole;
-    }
-    if same(word, b"node") {
-        return Record::Node;
-    }
-    Record::Malformed
 }
 
 // `plan` with `list` or `tree`.
+#[tactic(auto, unfolding(crate::specs::Records::two_fields))]
 fn two_fields(word: &[u8], kind: &[u8]) -> Record
     ensures { result ≡ two_fields word.now kind.now }
 {
-    if !same(word, b"plan") {
-        return Record::Malformed;
+    match (word, kind) {
+        (b"plan", b"list") => Record::Header(Kind::Polygons),
+        (b"plan", b"tree") => Record::Header(Kind::Tree),
+        _ => Record::Malformed,
     }
-    if same(kind, b"list") {
-        return Record::Header(Kind::Polygons);
-    }
-    if same(kind, b"tree") {
-        return Record::Header(Kind::Tree);
-    }
-    Record::Malformed
 }
 
 // `at`, x, y.
+#[tactic(auto, unfolding(crate::specs::Records::three_fields))]
 fn three_fields(word: &[u8], first: &[u8], second: &[u8]) -> Record
     ensures { result ≡ three_fields word.now first.now second.now }
 {
-    if !same(word, b"at") {
+    if word != b"at".as_slice() {
         return Record::Malformed;
     }
-    let Number::Is(x) = read_number(first) else {
-        return Record::Malformed;
-    };
-    let Number::Is(y) = read_number(second) else {
-        return Record::Malformed;
-    };
-    Record::Corner(Point { x: x, y: y })
+    match (read_number(first), read_number(second)) {
+        (Some(x), Some(y)) => Record::Corner(Point { x, y }),
+        _ => Record::Malformed,
+    }
 }
 
 /// What a line, without its line end, says. Nothing is refused here: a line off the format is `Malformed`.
+#[tactic(auto, unfolding(crate::specs::Records::record_of))]
 pub(crate) fn read_record(line: &[u8]) -> Record
     ensures { result ≡ record_of (split 9 line.now) }
 {
-    let first = find(line, b'\t', 0);
-    if first == line.len() {
+    let Some((word, rest)) = split_once(line, b'\t') else {
         return one_field(line);
-    }
-    let word = &line[..first];
-    let second = find(line, b'\t', first + 1);
-    let field = &line[first + 1..second];
-    if second == line.len() {
-        return two_fields(word, field);
-    }
-    let third = find(line, b'\t', second + 1);
-    if third < line.len() {
+    };
+    let Some((first, second)) = split_once(rest, b'\t') else {
+        return two_fields(word, rest);
+    };
+    if split_once(second, b'\t').is_some() {
         return Record::Malformed;
     }
-    let last = &line[second + 1..third];
-    three_fields(word, field, last)
+    three_fields(word, first, second)
 }

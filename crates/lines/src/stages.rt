@@ -1,35 +1,25 @@
 // A text judged line by line, by what its lines count (document 01, item 10). Nothing is written.
 ghost use Rattle.std.specs.Prelude.{◌≡◌, ◌≤◌, length};
-ghost use Rattle.lines.specs.Plans.{meaning, is_header, allowed};
-ghost use Rattle.lines.specs.Steps.{Countable, StageCountable, empty_size, size_after, stage_after, stage_at_end, Judged};
+ghost use Rattle.rules.specs.declared.Refusal.TheVariants as Refusal;
+ghost use Rattle.lines.specs.Plans.{meaning, allowed};
+ghost use Rattle.lines.specs.Steps.{Countable, SoFarCountable, empty_size, size_after, stage_after, Judged};
 
 use crate::Size;
 use crate::records::{Record, read_record};
-use fields::find;
-use rules::{Kind, is_list};
+use fields::split_once;
+use rules::{Kind, Refusal, is_list};
 
-/// What the lines so far come to: nothing yet, a plan of this size, or the first line that breaks a rule.
-#[derive(Clone, Copy)]
-pub enum Stage {
-    /// No line yet.
-    Start,
-    /// A plan of this size.
-    Gives(Size),
-    /// The first line that breaks a rule.
-    Broken(usize),
+/// 2: the first line that breaks a rule, counted from 1. It is line 1 of an empty text.
+#[derive(Clone, Copy, PartialEq, Eq, Debug)]
+pub struct BadLine {
+    pub line: usize,
 }
 
-// Whether a line is a header.
-fn is_header(row: Record) -> bool
-    ensures { result ≡ is_header row }
-{
-    match row {
-        Record::Header(_) => true,
-        Record::Outer => false,
-        Record::Hole => false,
-        Record::Node => false,
-        Record::Corner(_) => false,
-        Record::Malformed => false,
+impl From<BadLine> for Refusal {
+    ghost from_gives = { λ bad refusal. refusal ≡ Refusal.BadLine bad.line };
+
+    fn from(bad: BadLine) -> Refusal {
+        Refusal::BadLine(bad.line)
     }
 }
 
@@ -37,14 +27,12 @@ fn is_header(row: Record) -> bool
 fn allowed(size: Size, row: Record) -> bool
     ensures { result ≡ allowed size row }
 {
-    let kind = size.kind;
     match row {
-        Record::Header(_) => false,
-        Record::Outer => is_list(kind),
-        Record::Hole => is_list(kind) & (0 < size.polygons),
-        Record::Node => !is_list(kind),
+        Record::Outer => is_list(size.kind),
+        Record::Hole => is_list(size.kind) && 0 < size.polygons,
+        Record::Node => !is_list(size.kind),
         Record::Corner(_) => 0 < size.rings,
-        Record::Malformed => false,
+        Record::Header(_) | Record::Malformed => false,
     }
 }
 
@@ -53,7 +41,7 @@ pub(crate) fn empty_size(kind: Kind) -> Size
     ensures { result ≡ empty_size kind }
 {
     Size {
-        kind: kind,
+        kind,
         corners: 0,
         rings: 0,
         polygons: 0,
@@ -65,90 +53,52 @@ pub(crate) fn counted(size: Size, row: Record) -> Size
     requires { Countable size }
     ensures { result ≡ size_after size row }
 {
-    let kind = size.kind;
     match row {
-        Record::Header(named) => empty_size(named),
+        Record::Header(kind) => empty_size(kind),
         Record::Outer => Size {
-            kind: kind,
-            corners: size.corners,
             rings: size.rings + 1,
             polygons: size.polygons + 1,
+            ..size
         },
-        Record::Hole => Size {
-            kind: kind,
-            corners: size.corners,
+        Record::Hole | Record::Node => Size {
             rings: size.rings + 1,
-            polygons: size.polygons,
-        },
-        Record::Node => Size {
-            kind: kind,
-            corners: size.corners,
-            rings: size.rings + 1,
-            polygons: size.polygons,
+            ..size
         },
         Record::Corner(_) => Size {
-            kind: kind,
             corners: size.corners + 1,
-            rings: size.rings,
-            polygons: size.polygons,
+            ..size
         },
         Record::Malformed => size,
     }
 }
 
-// The stage after a line that is ended.
-fn after_line(stage: Stage, row: Record, line: usize) -> Stage
-    requires { StageCountable stage }
-    ensures { result ≡ stage_after line stage row }
+// The size after a line that is ended: of the plan that it carries on, or begins where there is none so far.
+fn after_line(so_far: Option<Size>, row: Record, line: usize) -> Result<Size, BadLine>
+    requires { SoFarCountable so_far }
+    ensures { result ≡ stage_after line so_far row }
 {
-    match stage {
-        Stage::Start => {
-            if !is_header(row) {
-                return Stage::Broken(line);
-            }
-            Stage::Gives(counted(empty_size(Kind::Polygons), row))
-        }
-        Stage::Gives(size) => {
-            if !allowed(size, row) {
-                return Stage::Broken(line);
-            }
-            Stage::Gives(counted(size, row))
-        }
-        Stage::Broken(first) => Stage::Broken(first),
+    match (so_far, row) {
+        (None, Record::Header(kind)) => Ok(empty_size(kind)),
+        (Some(size), _) if allowed(size, row) => Ok(counted(size, row)),
+        _ => Err(BadLine { line }),
     }
 }
 
-// The stage at the text's end, after which an unended line may stand.
-fn at_end(stage: Stage, line: usize, unended: bool) -> Stage
-    ensures { result ≡ stage_at_end line stage unended }
-{
-    match stage {
-        Stage::Start => Stage::Broken(line),
-        Stage::Gives(size) => {
-            if unended {
-                return Stage::Broken(line);
-            }
-            Stage::Gives(size)
-        }
-        Stage::Broken(first) => Stage::Broken(first),
-    }
-}
-
-/// What a text comes to: the size of its plan, or 2 with the first line that breaks a rule, which is line 1 of an empty text.
-pub fn judge(text: &[u8]) -> Stage
+/// The size of a text's plan. Refused with 2 at the first line that breaks a rule.
+pub fn judge(text: &[u8]) -> Result<Size, BadLine>
     requires { length text.now ≤ 65536 }
     ensures { Judged (meaning text.now) result }
 {
-    let mut stage = Stage::Start;
+    let mut so_far = None;
     let mut line = 1;
-    let mut from = 0;
-    let mut end = find(text, b'\n', from);
-    while end < text.len() {
-        let row = read_record(&text[from..end]);
-        stage = after_line(stage, row, line);
+    let mut rest = text;
+    while let Some((row, after)) = split_once(rest, b'\n') {
+        so_far = Some(after_line(so_far, read_record(row), line)?);
         line += 1;
-        from = end + 1;
-        end = find(text, b'\n', from);
+        rest = after;
     }
-    at_end(stage, line, from < end)
+    match so_far {
+        Some(size) if rest.is_empty() => Ok(size),
+        _ => Err(BadLine { line }),
+    }
 }

@@ -6,7 +6,7 @@ ghost use Rattle.lines.specs.Stored.{plan_in, starting_with};
 
 use crate::records::{Record, read_record};
 use crate::stages::{counted, empty_size};
-use fields::find;
+use fields::split_once;
 use geom::Point;
 use rules::Kind;
 
@@ -15,7 +15,7 @@ fn add_one(table: &mut [usize], n: usize)
     requires { RoomBefore n table.old }
     ensures { table.new ≡ one_more_before n table.old }
 {
-    table[n - 1] = table[n - 1] + 1;
+    table[n - 1] += 1;
 }
 
 // Corner n of a coordinate table.
@@ -23,10 +23,8 @@ fn store_corner(corners: &mut [i64], n: usize, p: Point)
     requires { 2 * n + 1 < length corners.old }
     ensures { corners.new ≡ set (set corners.old (2 * n) p.x) (2 * n + 1) p.y }
 {
-    let x = p.x;
-    let y = p.y;
-    corners[2 * n] = x;
-    corners[2 * n + 1] = y;
+    corners[2 * n] = p.x;
+    corners[2 * n + 1] = p.y;
 }
 
 // A corner goes after n others.
@@ -34,13 +32,8 @@ fn put_corner(corners: &mut [i64], n: usize, row: Record)
     requires { CornerRoom n row corners.old }
     ensures { corners.new ≡ corners_with n row corners.old }
 {
-    match row {
-        Record::Header(_) => {}
-        Record::Outer => {}
-        Record::Hole => {}
-        Record::Node => {}
-        Record::Corner(p) => store_corner(corners, n, p),
-        Record::Malformed => {}
+    if let Record::Corner(p) = row {
+        store_corner(corners, n, p);
     }
 }
 
@@ -50,12 +43,9 @@ fn put_length(lengths: &mut [usize], n: usize, row: Record)
     ensures { lengths.new ≡ lengths_with n row lengths.old }
 {
     match row {
-        Record::Header(_) => {}
-        Record::Outer => lengths[n] = 0,
-        Record::Hole => lengths[n] = 0,
-        Record::Node => lengths[n] = 0,
+        Record::Outer | Record::Hole | Record::Node => lengths[n] = 0,
         Record::Corner(_) => add_one(lengths, n),
-        Record::Malformed => {}
+        Record::Header(_) | Record::Malformed => {}
     }
 }
 
@@ -65,12 +55,9 @@ fn put_count(counts: &mut [usize], n: usize, row: Record)
     ensures { counts.new ≡ counts_with n row counts.old }
 {
     match row {
-        Record::Header(_) => {}
         Record::Outer => counts[n] = 1,
         Record::Hole => add_one(counts, n),
-        Record::Node => {}
-        Record::Corner(_) => {}
-        Record::Malformed => {}
+        Record::Header(_) | Record::Node | Record::Corner(_) | Record::Malformed => {}
     }
 }
 
@@ -80,15 +67,13 @@ pub fn write_plan(text: &[u8], corners: &mut [i64], lengths: &mut [usize], count
     ensures { (corners.new ≡ starting_with (plan_in (meaning text.now)).coordinates corners.old) × (lengths.new ≡ starting_with (plan_in (meaning text.now)).lengths lengths.old) × (counts.new ≡ starting_with (plan_in (meaning text.now)).counts counts.old) }
 {
     let mut done = empty_size(Kind::Polygons);
-    let mut from = 0;
-    let mut end = find(text, b'\n', from);
-    while end < text.len() {
-        let row = read_record(&text[from..end]);
+    let mut rest = text;
+    while let Some((line, after)) = split_once(rest, b'\n') {
+        let row = read_record(line);
         put_corner(corners, done.corners, row);
         put_length(lengths, done.rings, row);
         put_count(counts, done.polygons, row);
         done = counted(done, row);
-        from = end + 1;
-        end = find(text, b'\n', from);
+        rest = after;
     }
 }

@@ -31,10 +31,9 @@ use Rattle.model.specs.declared.Answer.{Answer}
 use Rattle.model.specs.declared.Answer.TheVariants.{At, Accepted, Refused}
 use Rattle.model.specs.declared.Call.{Call}
 use Rattle.model.specs.declared.Call.TheVariants.{Move, Undo, Locate, LocateDoubled}
-use Rattle.model.specs.declared.Early.TheVariants.{Open}
 use Rattle.model.specs.Entries.{put_corner, put_back, entry_in, is_recorded}
 use Rattle.model.specs.Prepared.{Prepared, plan_held, Sound}
-use Rattle.model.specs.Steps.{refusing, early, Corrected, moved_state, Moves, TakesBack, is_look_up, Step}
+use Rattle.model.specs.Steps.{refusing, early, Corrected, moved_state, Moves, TakesBack, is_look_up, Step, Open}
 use Rattle.model.proofs.Corners.{corner_put, corner_other}
 use Rattle.model.proofs.Ways.{true_false, at_refused, accepted_refused, always_recorded, early_move}
 use Rattle.model.proofs.Worked.{at, tables, fresh, two_moves, moved_twice}

@@ -18,11 +18,9 @@ use Rattle.rules.specs.Plans.{corner_at, plan_reply, plan_half_reply}
 use Rattle.model.specs.declared.Answer.TheVariants.{At, Accepted, Refused}
 use Rattle.model.specs.declared.Call.{Call}
 use Rattle.model.specs.declared.Call.TheVariants.{Move, Undo, Locate, LocateDoubled}
-use Rattle.model.specs.declared.Early.{Early}
-use Rattle.model.specs.declared.Early.TheVariants.{Open, Settled}
 use Rattle.model.specs.Entries.{is_recorded, is_full}
 use Rattle.model.specs.Prepared.{Prepared, plan_held, Sound}
-use Rattle.model.specs.Steps.{refusing, early, Step}
+use Rattle.model.specs.Steps.{refusing, early, Step, Early, Open, Settled}
 use Rattle.model.proofs.Ways.{accepted_refused, at_refused}
 
 early_is : (call : Call) (d d' : Prepared) (refusal : Refusal) → (refusal ≡ Unsound → ⊥) → Step call d (Refused refusal) d' → early call d ≡ refusing refusal

@@ -1,4 +1,5 @@
 -- A corner put at a place, and put back: coordinates, the plan's refusals and range, edges and their boxes. Assumes nothing.
+use Rattle.std.specs.Prelude.{Err}
 use mathlib.Core.Path.{◌≡◌, refl, ap, ◌∙◌}
 use mathlib.Core.Bool.{true, not, cond, ◌||◌, ◌&&◌}
 use mathlib.Core.List.{List, [], ◌∷◌}
@@ -12,13 +13,13 @@ use Rattle.geom.specs.declared.Point.{Point}
 use Rattle.geom.specs.Boxes.{rect_of}
 use Rattle.geom.specs.Range.{in_range}
 use Rattle.rules.specs.declared.Refusal.TheVariants.{Uneven, TooMany}
-use Rattle.rules.specs.declared.Verdict.TheVariants.{Accepted, Refused}
 use Rattle.rules.specs.Lists.{any_of, total, is_odd}
 use Rattle.rules.specs.Plans.{Plan, corner_at, is_list, too_many, uneven, plan_verdict, all_in_range}
 use Rattle.boxes.specs.Boxes.{edge_box}
 use Rattle.boxes.specs.Rings.{next_corner, edge_of}
 use Rattle.model.specs.Entries.{put_corner, put_back, entry_of}
 use Rattle.model.specs.Model.{standing}
+use Rattle.rules.specs.Answering.{Accepted}
 
 -- ---- coordinates
 pub put_length : (corners : List ℤ) (i : ℕ) (place : Point) → length (put_corner corners i place) ≡ length corners
@@ -75,8 +76,8 @@ count_take n corners h = let e = length-take-le (2 * n) corners h in omega arith
 pub verdict_standing : (plan : Plan) (corners : List ℤ) → length corners ≡ length plan.coordinates → plan_verdict (standing plan corners) ≡ plan_verdict plan
 unfolding plan_verdict too_many uneven
 verdict_standing plan corners e =
-    λ t. cond (ltb 1048576 (e t / 2) || (ltb 65536 (length plan.lengths) || (is_list plan.kind && ltb 65536 (length plan.counts)))) (Refused TooMany)
-    (cond (is_odd (e t) || (not (eqb (total plan.lengths) (e t / 2)) || (is_list plan.kind && (not (eqb (total plan.counts) (length plan.lengths)) || any_of (λ n. eqb n 0) plan.counts)))) (Refused Uneven) Accepted)
+    λ t. cond (ltb 1048576 (e t / 2) || (ltb 65536 (length plan.lengths) || (is_list plan.kind && ltb 65536 (length plan.counts)))) (Err TooMany)
+    (cond (is_odd (e t) || (not (eqb (total plan.lengths) (e t / 2)) || (is_list plan.kind && (not (eqb (total plan.counts) (length plan.lengths)) || any_of (λ n. eqb n 0) plan.counts)))) (Err Uneven) Accepted)
 
 -- ---- the range
 first_near : (corner : Point) (corners : List Point) → in_range corner ≡ true → all_in_range corners ≡ true → all_in_range (corner ∷ corners) ≡ true

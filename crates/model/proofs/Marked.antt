@@ -9,10 +9,8 @@ use Rattle.rules.specs.declared.Refusal.TheVariants.{PlanOutOfRange}
 use Rattle.model.specs.declared.Answer.TheVariants.{At}
 use Rattle.model.specs.declared.Call.{Call}
 use Rattle.model.specs.declared.Call.TheVariants.{Move, Undo, Locate, LocateDoubled}
-use Rattle.model.specs.declared.Early.{Early}
-use Rattle.model.specs.declared.Early.TheVariants.{Settled}
 use Rattle.model.specs.Prepared.{Prepared}
-use Rattle.model.specs.Steps.{refusing, early}
+use Rattle.model.specs.Steps.{refusing, early, Early, Settled}
 use Rattle.model.specs.Demand.{Turn, Run, end_of, marked_answer, Untouched}
 use Rattle.model.proofs.Ways.{settled_step}
 use Rattle.model.proofs.Runs.{Runs}

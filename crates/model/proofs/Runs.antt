@@ -21,11 +21,9 @@ use Rattle.model.specs.declared.Answer.{Answer}
 use Rattle.model.specs.declared.Answer.TheVariants.{At, Accepted}
 use Rattle.model.specs.declared.Call.{Call}
 use Rattle.model.specs.declared.Call.TheVariants.{Move, Undo, Locate, LocateDoubled}
-use Rattle.model.specs.declared.Early.{Early}
-use Rattle.model.specs.declared.Early.TheVariants.{Open, Settled}
 use Rattle.model.specs.Entries.{put_corner}
 use Rattle.model.specs.Prepared.{Prepared, plan_held, Sound, Above}
-use Rattle.model.specs.Steps.{early, latest, Step}
+use Rattle.model.specs.Steps.{early, latest, Step, Early, Open, Settled}
 use Rattle.model.specs.Demand.{Turn, calls_of, Run, Fresh}
 use Rattle.model.proofs.Corners.{edge_other}
 use Rattle.model.proofs.Ways.{at_refused, settled_step, done_step, accepted_step, sound_reaches, sound_names, open_undo}

@@ -20,11 +20,10 @@ use Rattle.index.specs.Sound.{IndexSound}
 use Rattle.model.specs.declared.Answer.{Answer}
 use Rattle.model.specs.declared.Answer.TheVariants.{Accepted, Refused}
 use Rattle.model.specs.declared.Call.TheVariants.{Move, Undo}
-use Rattle.model.specs.declared.Early.TheVariants.{Open, Settled}
 use Rattle.model.specs.Entries.{put_corner, put_back, Entry, entry_of, entry_in, undo_row, is_recorded}
 use Rattle.model.specs.Model.{standing}
 use Rattle.model.specs.Prepared.{Prepared, prepared_of, UndoSound, Sound, Above}
-use Rattle.model.specs.Steps.{move_early, undo_early, early, at_depth, moved_state, moved_undo, Moves, latest, TakesBack, Reaches, NamesCorner, Step}
+use Rattle.model.specs.Steps.{move_early, undo_early, early, at_depth, moved_state, moved_undo, Moves, latest, TakesBack, Reaches, NamesCorner, Step, Open, Settled}
 use Rattle.model.specs.Demand.{Fresh}
 use Rattle.model.proofs.Corners.{put_length, corner_put, corner_other, put_take, corner_take, verdict_standing, all_near}
 use Rattle.model.proofs.Ways.{always_recorded, early_move, settled_step, unsound_step, accepted_step, OpenMove, open_move, open_undo}

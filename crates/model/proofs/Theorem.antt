@@ -27,12 +27,10 @@ use Rattle.model.specs.declared.Answer.{Answer}
 use Rattle.model.specs.declared.Answer.TheVariants.{At, Refused}
 use Rattle.model.specs.declared.Call.{Call}
 use Rattle.model.specs.declared.Call.TheVariants.{Move, Undo, Locate, LocateDoubled}
-use Rattle.model.specs.declared.Early.{Early}
-use Rattle.model.specs.declared.Early.TheVariants.{Open, Settled}
 use Rattle.model.specs.Entries.{put_corner, put_back, Entry, entry_of, entry_in, undo_row, is_recorded, is_full}
 use Rattle.model.specs.Model.{Model, Line, standing, refuse, accept, pushed, model_locate, model_locate_doubled, model_call, answers_from, model_from, opened}
 use Rattle.model.specs.Prepared.{Prepared, plan_held, Sound}
-use Rattle.model.specs.Steps.{refusing, undo_early, look_early, early, at_depth, moved_state, moved_undo, Moves, latest, TakesBack, Step}
+use Rattle.model.specs.Steps.{refusing, undo_early, look_early, early, at_depth, moved_state, moved_undo, Moves, latest, TakesBack, Step, Early, Open, Settled}
 use Rattle.model.specs.Demand.{Turn, calls_of, answers_of, Run, end_of, Changes, Allowed, Framed, Frames, Fresh, AsFirst, lent, Stacked, Leaves, Demand}
 use Rattle.model.proofs.Corners.{put_length, put_other, put_same, put_back_lem, put_take, put_drop, corner_take, count_take}
 use Rattle.model.proofs.Ways.{accepted_refused, unrecorded_same, open_move}

@@ -1,4 +1,5 @@
 -- The ways out of a call as steps, and what is known where nothing is settled early. Assumes nothing.
+use Rattle.std.specs.Prelude.{Err, Ok}
 use mathlib.Core.Path.{◌≡◌, refl, sym, ap, ◌∙◌, subst}
 use mathlib.Core.Bool.{Bool, true, false, cond, ◌&&◌}
 use mathlib.Core.Logic.{◌⊎◌, inl, inr}
@@ -14,19 +15,17 @@ use Rattle.rules.specs.declared.Location.{Location}
 use Rattle.rules.specs.declared.Location.TheVariants.{Outside}
 use Rattle.rules.specs.declared.Refusal.{Refusal}
 use Rattle.rules.specs.declared.Refusal.TheVariants.{NoSuchCorner, PlaceOutOfRange, PlanOutOfRange, UndoFull, NothingToUndo, Unsound}
-use Rattle.rules.specs.declared.Reply.{Reply}
-use Rattle.rules.specs.declared.Reply as Reply
 use Rattle.rules.specs.declared.State.{State}
 use Rattle.rules.specs.Plans.{corner_at, plan_reply, plan_half_reply}
 use Rattle.model.specs.declared.Answer.{Answer}
 use Rattle.model.specs.declared.Answer.TheVariants.{At, Accepted, Refused}
 use Rattle.model.specs.declared.Call.{Call}
 use Rattle.model.specs.declared.Call.TheVariants.{Move, Undo, Locate, LocateDoubled}
-use Rattle.model.specs.declared.Early.TheVariants.{Open, Settled}
 use Rattle.model.specs.Entries.{is_recorded, is_full}
 use Rattle.model.specs.Numbers.{answer_of}
 use Rattle.model.specs.Prepared.{Prepared, plan_held, Sound}
-use Rattle.model.specs.Steps.{refusing, move_early, undo_early, look_early, early, Does, is_look_up, ReachesBeside, Reaches, NamesCorner, Step}
+use Rattle.model.specs.Steps.{refusing, move_early, undo_early, look_early, early, Does, is_look_up, ReachesBeside, Reaches, NamesCorner, Step, Open, Settled}
+use Rattle.rules.specs.Answering.{Reply}
 
 -- ---- answers that differ
 pub true_false : true ≡ false → ⊥
@@ -122,10 +121,10 @@ sound_names d s h = let k = d.state.undo_depth - 1 in (omega (arith, s.records.c
 
 -- a look-up's reply, by what is known of the state and the point
 pub record Looked (call : Call) (d : Prepared) (ranged : Bool) (location : Location) (reply : Reply) : Type 0 where
-  pub before : (d.state.out_of_range ≡ true) ⊎ (ranged ≡ false) → reply ≡ Reply.TheVariants.At Outside
-  pub only : (refusal : Refusal) → reply ≡ Reply.TheVariants.Refused refusal → refusal ≡ Unsound
-  pub short : d.state.out_of_range ≡ false → ranged ≡ true → (Reaches call d → ⊥) → reply ≡ Reply.TheVariants.Refused Unsound
-  pub exact : Sound d → d.state.out_of_range ≡ false → reply ≡ Reply.TheVariants.At location
+  pub before : (d.state.out_of_range ≡ true) ⊎ (ranged ≡ false) → reply ≡ Ok Outside
+  pub only : (refusal : Refusal) → reply ≡ Err refusal → refusal ≡ Unsound
+  pub short : d.state.out_of_range ≡ false → ranged ≡ true → (Reaches call d → ⊥) → reply ≡ Err Unsound
+  pub exact : Sound d → d.state.out_of_range ≡ false → reply ≡ Ok location
 
 look_early_is : (state : State) (ranged m r : Bool) → state.out_of_range ≡ m → ranged ≡ r → look_early state ranged ≡ cond m (Settled (At Outside)) (cond r Open (Settled (At Outside)))
 look_early_is state ranged m r e f = λ t. cond (e t) (Settled (At Outside)) (cond (f t) Open (Settled (At Outside)))
@@ -134,16 +133,16 @@ module _ (call : Call) (d : Prepared) (ranged : Bool) (location : Location) (is_
   looked_step : (reply : Reply) → NamesCorner call d → Looked call d ranged location reply → Step call d (answer_of reply) d
   looked_step reply names l = go d.state.out_of_range ranged refl refl reply refl
     where
-      out : early call d ≡ Settled (At Outside) → reply ≡ Reply.TheVariants.At Outside → Step call d (answer_of reply) d
+      out : early call d ≡ Settled (At Outside) → reply ≡ Ok Outside → Step call d (answer_of reply) d
       out e q = settled_step call d (answer_of reply) (e ∙ ap (λ (v : Reply). Settled (answer_of v)) (sym q))
 
       go : (m r : Bool) → d.state.out_of_range ≡ m → ranged ≡ r → (s : Reply) → reply ≡ s → Step call d (answer_of reply) d
       go true r e f s q = out (is_early ∙ look_early_is d.state ranged true r e f) (l.before (inl e))
       go false false e f s q = out (is_early ∙ look_early_is d.state ranged false false e f) (l.before (inr f))
-      go false true e f (Reply.TheVariants.At where_it_lies) q =
+      go false true e f (Ok where_it_lies) q =
           done_step call d (answer_of reply) d (is_early ∙ look_early_is d.state ranged false true e f) (λ refusal g. at_refused where_it_lies refusal (sym (ap answer_of q) ∙ g)) (λ g. refl)
           (λ n. at_refused where_it_lies Unsound (sym (ap answer_of q) ∙ ap answer_of (l.short e f n))) names (λ s. does (answer_of reply) (ap answer_of (l.exact s e)))
-      go false true e f (Reply.TheVariants.Refused refusal) q =
+      go false true e f (Err refusal) q =
           subst (λ (a : Answer). Step call d a d) (sym (ap answer_of q ∙ ap Refused (l.only refusal q)))
           (unsound_step call d (is_early ∙ look_early_is d.state ranged false true e f) (λ s. at_refused location refusal (sym (ap answer_of (l.exact s e)) ∙ ap answer_of q)))
 

@@ -11,7 +11,6 @@ use Rattle.geom.specs.declared.Point.{Point}
 use Rattle.geom.specs.Range.{in_range}
 use Rattle.predicates.specs.Turn.{orientation, on_segment}
 use Rattle.rules.specs.declared.Kind.TheVariants.{Polygons}
-use Rattle.rules.specs.declared.Verdict.TheVariants.{Accepted}
 use Rattle.rules.specs.Edges.{edges_from, edges_of, all_edges, edge_winding, winding, on_edge}
 use Rattle.rules.specs.Lists.{any_of, count_of, sum_of, total, parts_of}
 use Rattle.rules.specs.Nodes.{node_count}
@@ -31,6 +30,7 @@ use Rattle.model.specs.Numbers.{answer_number}
 use Rattle.model.specs.Model.{model_call, answers_from, model_answers}
 use Rattle.model.specs.Prepared.{Prepared, prepared_of, plan_held, UndoSound, Sound}
 use Rattle.model.specs.Demand.{Fresh}
+use Rattle.rules.specs.Answering.{Accepted}
 
 abbrev pub at : ℤ → ℤ → Point
 at x y = record { x = x; y = y }

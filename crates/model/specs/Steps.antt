@@ -1,11 +1,12 @@
 -- What the calls on a prepared plan promise, between what each is given and what it leaves (document 01, "From the state" and demand 3).
-use Rattle.std.specs.Prelude.{◌≡◌, Bool, true, false, cond, ◌&&◌, ◌⊎◌, List, [], ℕ, ◌+◌, ◌-◌, ◌*◌, ◌≤◌, ◌<◌, leb, eqb, ℤ, length, get_or, set}
+use Rattle.std.specs.Prelude.{◌≡◌, Bool, true, false, cond, ◌&&◌, ◌⊎◌, List, [], ℕ, ◌+◌, ◌-◌, ◌*◌, ◌≤◌, ◌<◌, leb, eqb, ℤ, length, get_or, set, Option, Some, None, Ok, Err}
 use Rattle.geom.specs.declared.Point.{Point}
 use Rattle.geom.specs.Range.{in_range, in_doubled_range}
 use Rattle.rules.specs.declared.Location.TheVariants.{Outside}
 use Rattle.rules.specs.declared.Refusal.{Refusal}
 use Rattle.rules.specs.declared.Refusal.TheVariants.{NoSuchCorner, PlaceOutOfRange, PlanOutOfRange, UndoFull, NothingToUndo, Unsound}
 use Rattle.rules.specs.declared.State.{State}
+use Rattle.rules.specs.Answering.{Verdict}
 use Rattle.rules.specs.Nodes.{node_count}
 use Rattle.rules.specs.Plans.{corner_at, plan_reply, plan_half_reply}
 use Rattle.rules.specs.Tables.{polygons_in}
@@ -13,14 +14,27 @@ use Rattle.model.specs.declared.Answer.{Answer}
 use Rattle.model.specs.declared.Answer.TheVariants.{At, Accepted, Refused}
 use Rattle.model.specs.declared.Call.{Call}
 use Rattle.model.specs.declared.Call.TheVariants.{Move, Undo, Locate, LocateDoubled}
-use Rattle.model.specs.declared.Early.{Early}
-use Rattle.model.specs.declared.Early.TheVariants.{Open, Settled}
 use Rattle.model.specs.Entries.{Entry, entry_of, entry_in, undo_row, put_corner, put_back, is_recorded, is_full}
 use Rattle.model.specs.Prepared.{Prepared, plan_held, Sound, Above}
+
+-- what is settled before a table is read, if anything is
+abbrev pub Early : Type 0
+Early = Option Answer
+
+pattern abbrev pub Open : Early
+Open = None
+
+pattern abbrev pub Settled : Answer → Early
+Settled answer = Some answer
 
 -- ---- what is settled before a table is read, in document 01's orders: 12, 5, 6, 13 and 12, 14; a look-up is outside
 abbrev pub refusing : Refusal → Early
 refusing refusal = Settled (Refused refusal)
+
+-- by a verdict: open where it accepts
+abbrev pub settling : Verdict → Early
+settling (Ok _) = Open
+settling (Err refusal) = refusing refusal
 
 abbrev pub move_early : State → ℕ → Bool → ℕ → Point → Early
 move_early state lent recorded i place =

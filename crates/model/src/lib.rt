@@ -4,9 +4,9 @@
 
 ghost use Rattle.std.specs.Prelude.{◌≡◌, true};
 ghost use Rattle.model.specs.Numbers.{answer_of, answer_number};
-ghost use Rattle.model.specs.Coded.{is_number, coded, call_of};
+ghost use Rattle.model.specs.Coded.{call_of};
 ghost use Rattle.model.specs.Entries.{is_full, corner_named};
-ghost use Rattle.model.specs.Steps.{move_early, undo_early};
+ghost use Rattle.model.specs.Steps.{settling, move_early, undo_early};
 
 use geom::Point;
 use rules::{Location, Refusal, Reply, State, reply_number};
@@ -35,20 +35,13 @@ pub enum Answer {
     Refused(Refusal),
 }
 
-/// What is settled before a table is read.
-#[derive(Clone, Copy)]
-pub enum Early {
-    Open,
-    Settled(Answer),
-}
-
 /// A look-up's reply as an answer.
 pub fn reply_answer(reply: Reply) -> Answer
     ensures { result ≡ answer_of reply }
 {
     match reply {
-        Reply::At(location) => Answer::At(location),
-        Reply::Refused(refusal) => Answer::Refused(refusal),
+        Ok(location) => Answer::At(location),
+        Err(refusal) => Answer::Refused(refusal),
     }
 }
 
@@ -57,82 +50,56 @@ pub fn answer_number(answer: Answer) -> i64
     ensures { result ≡ answer_number answer }
 {
     match answer {
-        Answer::At(location) => reply_number(Reply::At(location)),
+        Answer::At(location) => reply_number(Ok(location)),
         Answer::Accepted => 3,
-        Answer::Refused(refusal) => reply_number(Reply::Refused(refusal)),
+        Answer::Refused(refusal) => reply_number(Err(refusal)),
     }
 }
 
 /// What a move of corner i to a new place is refused for by the state and the undo table's length: 12, 5, 6 and 13, in that order.
-pub fn move_early(state: State, lent: usize, i: usize, place: Point) -> Early
-    ensures { result ≡ move_early state lent true i place }
+pub fn move_early(state: State, lent: usize, i: usize, place: Point) -> Result<(), Refusal>
+    ensures { settling result ≡ move_early state lent true i place }
 {
     if state.out_of_range {
-        return Early::Settled(Answer::Refused(Refusal::PlanOutOfRange));
+        return Err(Refusal::PlanOutOfRange);
     }
     if state.corners <= i {
-        return Early::Settled(Answer::Refused(Refusal::NoSuchCorner));
+        return Err(Refusal::NoSuchCorner);
     }
-    if place.in_range() {
-        if is_full(lent, state.undo_depth) {
-            return Early::Settled(Answer::Refused(Refusal::UndoFull));
-        }
-        return Early::Open;
+    if !place.in_range() {
+        return Err(Refusal::PlaceOutOfRange);
     }
-    Early::Settled(Answer::Refused(Refusal::PlaceOutOfRange))
+    if is_full(lent, state.undo_depth) {
+        return Err(Refusal::UndoFull);
+    }
+    Ok(())
 }
 
 /// What an undo is refused for by the state: 12 and 14, in that order.
-pub fn undo_early(state: State) -> Early
-    ensures { result ≡ undo_early state }
+pub fn undo_early(state: State) -> Result<(), Refusal>
+    ensures { settling result ≡ undo_early state }
 {
     if state.out_of_range {
-        return Early::Settled(Answer::Refused(Refusal::PlanOutOfRange));
+        return Err(Refusal::PlanOutOfRange);
     }
     if state.undo_depth == 0 {
-        return Early::Settled(Answer::Refused(Refusal::NothingToUndo));
+        return Err(Refusal::NothingToUndo);
     }
-    Early::Open
+    Ok(())
 }
 
 // Whether so many records leave no room in an undo table lent with that length.
 fn is_full(lent: usize, depth: usize) -> bool
     ensures { result ≡ is_full lent depth }
 {
-    (lent <= depth) | (MAX_UNDO <= depth)
+    lent <= depth || MAX_UNDO <= depth
 }
 
 /// The corner that a signed number names. One below zero names none: it gives the greatest number of 64 bits, which no plan reaches.
 pub fn corner_named(number: i64) -> usize
     ensures { result ≡ corner_named number }
 {
-    if number < 0 {
-        return 18446744073709551615;
-    }
-    number as usize
-}
-
-// Whether two signed numbers are the same.
-fn is_number(kind: i64, number: i64) -> bool
-    ensures { result ≡ is_number kind number }
-{
-    (kind <= number) & (number <= kind)
-}
-
-// The call of a kind, a corner and a point.
-fn coded_call(kind: i64, corner: i64, point: Point) -> Call
-    ensures { result ≡ coded kind corner point }
-{
-    if is_number(kind, 0) {
-        return Call::Move(corner_named(corner), point);
-    }
-    if is_number(kind, 1) {
-        return Call::Undo;
-    }
-    if is_number(kind, 2) {
-        return Call::Locate(point);
-    }
-    Call::LocateDoubled(point)
+    usize::try_from(number).unwrap_or(usize::MAX)
 }
 
 /// The call that a row of four numbers codes: 0, corner, x, y a move; 1 an undo; 2, any, x, y a look-up; any other first number a look-up
@@ -140,11 +107,12 @@ fn coded_call(kind: i64, corner: i64, point: Point) -> Call
 pub fn decode_call(row: [i64; 4]) -> Call
     ensures { result ≡ call_of row }
 {
-    let kind = row[0];
-    let corner = row[1];
-    let point = Point {
-        x: row[2],
-        y: row[3],
-    };
-    coded_call(kind, corner, point)
+    let [kind, corner, x, y] = row;
+    let point = Point { x, y };
+    match kind {
+        0 => Call::Move(corner_named(corner), point),
+        1 => Call::Undo,
+        2 => Call::Locate(point),
+        _ => Call::LocateDoubled(point),
+    }
 }

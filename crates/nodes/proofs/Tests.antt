@@ -3,7 +3,7 @@
 use mathlib.Core.Path.{◌≡◌, refl, sym, ap, ◌∙◌, subst}
 use mathlib.Core.Bool.{Bool, true, false, ◌&&◌}
 use mathlib.Core.List.{List}
-use Prim.Native.Nat.{ℕ, zero, suc, ◌+◌, ◌-◌, ◌*◌, ◌/◌, ◌≤◌, ◌<◌}
+use Prim.Native.Nat.{ℕ, zero, suc, ◌+◌, ◌-◌, ◌*◌, ◌≤◌, ◌<◌}
 use native.Mathlib.Decide.{ℕ_discrete}
 use native.Mathlib.Numerals.{add-one}
 use native.Mathlib.Omega.{arith}
@@ -50,22 +50,8 @@ module _ (passes : ℕ → Bool) where
   each_made zero f = refl
   each_made (suc m) f = λ i. each_made m (λ k l. f k (omega arith)) i && f m (omega arith) i
 
--- what fails makes the whole fail
-and_none : (b : Bool) → false ≡ (b && false)
-and_none true = refl
-and_none false = refl
-
 -- ---- a node is cut and both its children's places are below a length
 module _ (m : Node) (len : ℕ) where
-  pub leaf_has_none : m.count ≤ 8 → false ≡ has_children m len
-  leaf_has_none few = sym (ap (λ b. b && ltb (m.child + 1) len) (le-ltb 8 m.count few))
-
-  pub left_past : len ≤ m.child → false ≡ has_children m len
-  left_past past = and_none (ltb 8 m.count) ∙ sym (ap (λ b. ltb 8 m.count && b) (le-ltb (m.child + 1) len (omega arith)))
-
-  pub cut_has_both : 8 < m.count → ltb (m.child + 1) len ≡ has_children m len
-  cut_has_both cut = sym (ap (λ b. b && ltb (m.child + 1) len) (lt-ltb 8 m.count cut))
-
   pub children_below : T (has_children m len) → m.child + 1 < len
   children_below t = ltb-true (m.child + 1) len (and_true (ltb 8 m.count) (ltb (m.child + 1) len) (T_true (has_children m len) t)).1
 
@@ -136,9 +122,6 @@ pub record Named (n : ℕ) (edges : List ℕ) (f m k : ℕ) : Type 0 where
   pub named : each_below (names n edges f) k ≡ true
 
 module _ (n : ℕ) (edges : List ℕ) (f m : ℕ) where
-  pub edges_short : length edges < f + m → false ≡ names_edges n edges f m
-  edges_short l = rw (lt-leb (f + m) (length edges) l) refl
-
   pub names_start : f + m ≤ length edges → Named n edges f m 0
   names_start long = record { few = omega arith; reach = long; named = each_none (names n edges f) }
 
@@ -179,13 +162,3 @@ module _ (n count : ℕ) (corners : List ℤ) (rings edges : List ℕ) (m : Node
 
   pub fits_test : Fits n count corners rings edges m → is_fit n count corners rings edges m ≡ true
   fits_test fits = λ i. le-leb (2 * n) (length corners) fits.corners_reach i && (ends_test rings n count fits.ends i && names_test n edges m.first m.count fits.names i)
-
-  -- the tests in turn
-  pub corners_short : length corners / 2 < n → false ≡ is_fit n count corners rings edges m
-  corners_short l = rw (lt-leb (2 * n) (length corners) (omega arith)) refl
-
-  pub ends_unfit : n ≤ length corners / 2 → ends_rise n count rings ≡ false → false ≡ is_fit n count corners rings edges m
-  ends_unfit long e = sym (λ i. le-leb (2 * n) (length corners) (omega arith) i && (e i && names_edges n edges m.first m.count))
-
-  pub fit_by_names : n ≤ length corners / 2 → ends_rise n count rings ≡ true → names_edges n edges m.first m.count ≡ is_fit n count corners rings edges m
-  fit_by_names long e = sym (λ i. le-leb (2 * n) (length corners) (omega arith) i && (e i && names_edges n edges m.first m.count))

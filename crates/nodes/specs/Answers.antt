@@ -1,27 +1,22 @@
 -- What the calls over a list of node records answer, and the list that they leave, for every place and all tables (document 01,
 -- refusal 15).
-use Rattle.std.specs.Prelude.{◌≡◌, Bool, cond, true, ◌&&◌, List, ℕ, zero, suc, ◌+◌, ◌*◌, leb, ltb, eqb, ℤ, length, get_or}
+use Rattle.std.specs.Prelude.{◌≡◌, Bool, cond, true, ◌&&◌, List, ℕ, zero, suc, ◌+◌, ◌*◌, leb, ltb, eqb, ℤ, length, get_or, Result, Ok, Err}
 use Rattle.rules.specs.declared.Refusal as Refusal
+use Rattle.rules.specs.declared.Unsound.{Unsound}
 use Rattle.rules.specs.Numbers.{refusal_number}
 use Rattle.boxes.specs.Rings.{start_of}
 use Rattle.nodes.specs.Nodes.{no_node}
 use Rattle.nodes.specs.declared.Node.{Node}
-use Rattle.nodes.specs.declared.NodeRead.{NodeRead}
-use Rattle.nodes.specs.declared.NodeRead as NodeRead
-use Rattle.nodes.specs.declared.NodeRead.TheVariants.{At}
-use Rattle.nodes.specs.declared.NodeWritten.{NodeWritten}
-use Rattle.nodes.specs.declared.NodeWritten as NodeWritten
-use Rattle.nodes.specs.declared.NodeWritten.TheVariants.{Done}
 
 -- 0 for a node, or the refusal
-abbrev pub read_number : NodeRead → ℕ
-read_number (At m) = 0
-read_number NodeRead.TheVariants.Unsound = refusal_number Refusal.TheVariants.Unsound
+abbrev pub read_number : Result Node Unsound → ℕ
+read_number (Ok m) = 0
+read_number (Err _) = refusal_number Refusal.TheVariants.Unsound
 
 -- 0 for a node that was written, or the refusal
-abbrev pub written_number : NodeWritten → ℕ
-written_number Done = 0
-written_number NodeWritten.TheVariants.Unsound = refusal_number Refusal.TheVariants.Unsound
+abbrev pub written_number : Result Unit Unsound → ℕ
+written_number (Ok _) = 0
+written_number (Err _) = refusal_number Refusal.TheVariants.Unsound
 
 -- ---- what leads outside its table
 
@@ -60,12 +55,12 @@ cut_sound nodes p = is_listed nodes p && has_children (get_or nodes p no_node) (
 -- ---- the answers
 
 -- a read: the node at place p, or 15 where the list has no such place
-pub record Reads (nodes : List Node) (p : ℕ) (r : NodeRead) : Type 0 where
-  pub answer : r ≡ cond (is_listed nodes p) (At (get_or nodes p no_node)) NodeRead.TheVariants.Unsound
+pub record Reads (nodes : List Node) (p : ℕ) (r : Result Node Unsound) : Type 0 where
+  pub answer : r ≡ cond (is_listed nodes p) (Ok (get_or nodes p no_node)) (Err (record {}))
   pub number : read_number r ≡ cond (is_listed nodes p) 0 15
 
 -- a call that writes where `sound`, and gets 15 and writes nothing where not: `written` is the list that it is to leave
-pub record Writes (sound : Bool) (written nodes : List Node) (r : NodeWritten) (nodes' : List Node) : Type 0 where
-  pub answer : r ≡ cond sound Done NodeWritten.TheVariants.Unsound
+pub record Writes (sound : Bool) (written nodes : List Node) (r : Result Unit Unsound) (nodes' : List Node) : Type 0 where
+  pub answer : r ≡ cond sound (Ok tt) (Err (record {}))
   pub number : written_number r ≡ cond sound 0 15
   pub list : nodes' ≡ cond sound written nodes

@@ -9,9 +9,10 @@ ghost use Rattle.nodes.specs.Answers.{ends_rise, names_edges, is_fit, has_childr
 use boxes::part_box;
 use geom::{Point, Rect};
 use index::build::LEAF;
+use rules::Unsound;
 
 /// A node of the index: its box, its part of the edge list, and the place of its left child, next to which its right child stands.
-#[derive(Clone, Copy)]
+#[derive(Clone, Copy, PartialEq, Eq)]
 pub struct Node {
     pub min_x: i64,
     pub min_y: i64,
@@ -20,24 +21,6 @@ pub struct Node {
     pub first: usize,
     pub count: usize,
     pub child: usize,
-}
-
-/// What reading a node of the list gives.
-#[derive(Clone, Copy)]
-pub enum NodeRead {
-    /// The node.
-    At(Node),
-    /// 15: no such place.
-    Unsound,
-}
-
-/// What became of a node of the list.
-#[derive(Clone, Copy)]
-pub enum NodeWritten {
-    /// It was written.
-    Done,
-    /// 15: no such place, no children, or a number that leads outside its table. Nothing was written.
-    Unsound,
 }
 
 impl Node {
@@ -58,17 +41,15 @@ impl Node {
     }
 
     /// The node with another box; its part and its children stay.
-    pub fn in_box(self, r: Rect) -> Node
+    pub fn in_box(self, r: Rect) -> Self
         ensures { result ≡ in_box self r }
     {
-        Node {
+        Self {
             min_x: r.min.x,
             min_y: r.min.y,
             max_x: r.max.x,
             max_y: r.max.y,
-            first: self.first,
-            count: self.count,
-            child: self.child,
+            ..self
         }
     }
 }
@@ -81,14 +62,12 @@ fn ends_rise(rings: &[usize], n: usize, count: usize) -> bool
         return false;
     }
     let mut start: usize = 0;
-    let mut i: usize = 0;
-    while i < count {
+    for i in 0..count {
         let end = rings[i];
         if end < start {
             return false;
         }
         start = end;
-        i += 1;
     }
     start == n
 }
@@ -97,18 +76,13 @@ fn ends_rise(rings: &[usize], n: usize, count: usize) -> bool
 fn names_edges(edges: &[usize], n: usize, first: usize, size: usize) -> bool
     ensures { result ≡ names_edges n edges.now first size }
 {
-    if edges.len() < first {
+    if edges.len() < first || edges.len() - first < size {
         return false;
     }
-    if edges.len() - first < size {
-        return false;
-    }
-    let mut k: usize = 0;
-    while k < size {
+    for k in 0..size {
         if n <= edges[first + k] {
             return false;
         }
-        k += 1;
     }
     true
 }
@@ -124,28 +98,16 @@ fn is_fit(
 ) -> bool
     ensures { result ≡ is_fit n count corners.now rings.now edges.now node }
 {
-    if corners.len() / 2 < n {
-        return false;
-    }
-    if !ends_rise(rings, n, count) {
-        return false;
-    }
-    names_edges(edges, n, node.first, node.count)
+    n <= corners.len() / 2
+        && ends_rise(rings, n, count)
+        && names_edges(edges, n, node.first, node.count)
 }
 
 // Whether a node is cut, and both its children's places are below `len`.
 fn has_children(node: Node, len: usize) -> bool
     ensures { result ≡ has_children node len }
 {
-    let count = node.count;
-    let child = node.child;
-    if count <= LEAF {
-        return false;
-    }
-    if len <= child {
-        return false;
-    }
-    child + 1 < len
+    LEAF < node.count && node.child < len && node.child + 1 < len
 }
 
 // A node in the smallest box round the edges of its part.
@@ -173,26 +135,26 @@ fn fitted_cut(node: Node, left: Node, right: Node) -> Node
 /// The node at place p.
 ///
 /// Refused with 15 (`Unsound`) where the list has no place p.
-pub fn node_at(nodes: &[Node], p: usize) -> NodeRead
+pub fn node_at(nodes: &[Node], p: usize) -> Result<Node, Unsound>
     ensures { Reads nodes.now p result }
 {
     if nodes.len() <= p {
-        return NodeRead::Unsound;
+        return Err(Unsound);
     }
-    NodeRead::At(nodes[p])
+    Ok(nodes[p])
 }
 
 /// Puts a node at place p. No other is written.
 ///
 /// Refused with 15 (`Unsound`) where the list has no place p; it stays as it was.
-pub fn put_node(nodes: &mut [Node], p: usize, node: Node) -> NodeWritten
+pub fn put_node(nodes: &mut [Node], p: usize, node: Node) -> Result<(), Unsound>
     ensures { Writes (is_listed nodes.old p) (set nodes.old p node) nodes.old result nodes.new }
 {
     if p < nodes.len() {
         nodes[p] = node;
-        return NodeWritten::Done;
+        return Ok(());
     }
-    NodeWritten::Unsound
+    Err(Unsound)
 }
 
 /// Gives the node at place p the smallest box round the edges of its part, whether that is wider or narrower than its own. Nothing else
@@ -209,17 +171,17 @@ pub fn refit_leaf(
     n: usize,
     count: usize,
     p: usize,
-) -> NodeWritten
+) -> Result<(), Unsound>
     ensures { Writes (leaf_sound n count corners.now rings.now edges.now nodes.old p) (leaf_refitted corners.now rings.now edges.now nodes.old p) nodes.old result nodes.new }
 {
     if p < nodes.len() {
         let node = nodes[p];
         if is_fit(corners, rings, edges, n, count, node) {
             nodes[p] = fitted_leaf(corners, rings, edges, n, count, node);
-            return NodeWritten::Done;
+            return Ok(());
         }
     }
-    NodeWritten::Unsound
+    Err(Unsound)
 }
 
 /// Gives the node at place p the union of its two children's boxes: the smallest round its edges where theirs are. Nothing else of it
@@ -227,7 +189,7 @@ pub fn refit_leaf(
 ///
 /// Refused with 15 (`Unsound`) where the list has no place p, a leaf there, which has no children, or not both of its children: never for a
 /// cut node of sound tables. A refused list stays as it was.
-pub fn refit_cut(nodes: &mut [Node], p: usize) -> NodeWritten
+pub fn refit_cut(nodes: &mut [Node], p: usize) -> Result<(), Unsound>
     ensures { Writes (cut_sound nodes.old p) (cut_refitted nodes.old p) nodes.old result nodes.new }
 {
     if p < nodes.len() {
@@ -237,8 +199,8 @@ pub fn refit_cut(nodes: &mut [Node], p: usize) -> NodeWritten
             let left = nodes[child];
             let right = nodes[child + 1];
             nodes[p] = fitted_cut(node, left, right);
-            return NodeWritten::Done;
+            return Ok(());
         }
     }
-    NodeWritten::Unsound
+    Err(Unsound)
 }

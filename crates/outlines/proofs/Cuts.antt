@@ -1,4 +1,5 @@
 -- Tables that cut a list into parts, entry by entry. Assumes nothing.
+use Rattle.std.specs.Prelude.{Err}
 use mathlib.Core.Path.{◌≡◌, refl, sym, ◌∙◌, ap, subst}
 use mathlib.Core.Logic.{⊎_elim}
 use mathlib.Core.List.{List, [], ◌∷◌}
@@ -11,7 +12,6 @@ use Rattle.rules.specs.Lists.{parts_of}
 use Rattle.rules.specs.Tables.{lengths_from}
 use Rattle.outlines.specs.declared.rows.Form.{Form}
 use Rattle.outlines.specs.declared.rows.Form.TheVariants.{Lengths, Ends}
-use Rattle.outlines.specs.declared.rows.End.TheVariants.{Misfit}
 use Rattle.rings.specs.Parts.{part}
 use Rattle.outlines.specs.Rows.{end_at, lengths_by, end_by, Within, parts_from, EndSays}
 
@@ -36,7 +36,7 @@ within_step form limit start table k h w =
     let v : Within form limit start (get_or table k 0 ∷ drop (k + 1) table) = subst (Within form limit start) (table_cons table k h) w in
     record { rises = v.0; reaches = within_start form limit (end_at form start (get_or table k 0)) (drop (k + 1) table) v.1; rest = v.1 }
 
-pub misfit : (form : Form) (limit start : ℕ) (table : List ℕ) (k : ℕ) → k < length table → Within form limit start (drop k table) → EndSays form table k start limit Misfit → ⊥
+pub misfit : (form : Form) (limit start : ℕ) (table : List ℕ) (k : ℕ) → k < length table → Within form limit start (drop k table) → EndSays form (get_or table k 0) start limit (Err (record {})) → ⊥
 misfit form limit start table k h w says =
     let s = within_step form limit start table k h w in
     ⊎_elim (λ past. omega (arith, s.reaches)) (λ before. omega (arith, s.rises)) says

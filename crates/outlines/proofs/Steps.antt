@@ -1,4 +1,5 @@
 -- Item 4's rules, one ring or polygon at a time. Assumes nothing.
+use Rattle.std.specs.Prelude.{Err, Ok}
 use mathlib.Core.Path.{◌≡◌, refl, sym, ◌∙◌, ap, subst}
 use mathlib.Core.Bool.{Bool, true, false, not, cond, ◌||◌}
 use mathlib.Core.List.{List, [], ◌∷◌}
@@ -8,14 +9,13 @@ use Rattle.geom.specs.declared.Point.{Point}
 use Rattle.rules.specs.declared.Location.{Location}
 use Rattle.rules.specs.declared.Location.TheVariants.{Outside, Inside, OnBoundary}
 use Rattle.rules.specs.declared.Refusal.{Refusal}
-use Rattle.rules.specs.declared.Reply.{Reply}
-use Rattle.rules.specs.declared.Reply.TheVariants.{At, Refused}
 use Rattle.rules.specs.Edges.{edges_of, winding, on_edge}
 use Rattle.rules.specs.Lists.{any_of, count_of, is_odd, xor}
 use Rattle.rules.specs.Replies.{is_nonzero, ring_reply, by_hole, holes_reply, within_outer, polygon_reply, stronger, list_reply, tree_reply}
 use Rattle.rules.proofs.Flags.{xor_none}
 use Rattle.rules.proofs.FourRays.{odd_suc}
 use Rattle.rings.specs.Places.{is_inside, is_boundary, flipped_by}
+use Rattle.rules.specs.Answering.{Reply}
 
 -- ---- holes
 -- no hole so far decided
@@ -150,18 +150,11 @@ pub inside_wins : (polygons : List (List (List Point))) (p : Point) (best : Loca
 inside_wins polygons p best later e w = sym (w ∙ ap (λ l. stronger l (list_reply later p)) (only_inside best e))
 
 -- ---- replies
-place_in : Reply → Location
-place_in (At place) = place
-place_in (Refused refusal) = Outside
+pub same_place : (a b : Location) → ◌≡◌ {A = Reply} (Ok a) (Ok b) → a ≡ b
+same_place a b e = (cc)
 
-pub same_place : (a b : Location) → At a ≡ At b → a ≡ b
-unfolding place_in
-same_place a b e = ap place_in e
+pub at_refused : (a : Location) (r : Refusal) → ◌≡◌ {A = Reply} (Ok a) (Err r) → ⊥
+at_refused a r e = (cc)
 
-is_at : Reply → Bool
-is_at (At place) = true
-is_at (Refused refusal) = false
-
-pub at_refused : (a : Location) (r : Refusal) → At a ≡ Refused r → ⊥
-unfolding is_at
-at_refused a r e = subst T (ap is_at e) tt
+pub same_refused : (r s : Refusal) → ◌≡◌ {A = Reply} (Err r) (Err s) → r ≡ s
+same_refused r s e = (cc)

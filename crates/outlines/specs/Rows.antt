@@ -1,11 +1,10 @@
 -- A table that cuts a list into parts, in either form: the parts' lengths, or where they end.
-use Rattle.std.specs.Prelude.{◌≡◌, ◌⊎◌, List, [], ◌∷◌, ℕ, ◌+◌, ◌≤◌, ◌<◌, get_or, drop}
+use Rattle.std.specs.Prelude.{◌≡◌, ◌⊎◌, List, [], ◌∷◌, ℕ, ◌+◌, ◌≤◌, ◌<◌, drop, Result, Ok, Err}
+use Rattle.rules.specs.declared.Unsound.{Unsound}
 use Rattle.rules.specs.Lists.{parts_of}
 use Rattle.rules.specs.Tables.{lengths_from}
 use Rattle.outlines.specs.declared.rows.Form.{Form}
 use Rattle.outlines.specs.declared.rows.Form.TheVariants.{Lengths, Ends}
-use Rattle.outlines.specs.declared.rows.End.{End}
-use Rattle.outlines.specs.declared.rows.End.TheVariants.{At, Misfit}
 
 -- where a part ends that starts here and has this entry
 abbrev pub end_at : Form → ℕ → ℕ → ℕ
@@ -32,11 +31,11 @@ unfoldable pub parts_from : {A : Type 0} → Form → List A → ℕ → List �
 parts_from form xs start table = parts_of (lengths_by form start table) (drop start xs)
 
 -- what `end_of` says
-abbrev pub EndSays : Form → List ℕ → ℕ → ℕ → ℕ → End → Type 0
-EndSays form table k start limit (At end) = (end ≡ end_at form start (get_or table k 0)) × (start ≤ end) × (end ≤ limit)
-EndSays form table k start limit Misfit = (limit < end_at form start (get_or table k 0)) ⊎ (end_at form start (get_or table k 0) < start)
+abbrev pub EndSays : Form → ℕ → ℕ → ℕ → Result ℕ Unsound → Type 0
+EndSays form entry start limit (Ok end) = (end ≡ end_at form start entry) × (start ≤ end) × (end ≤ limit)
+EndSays form entry start limit (Err _) = (limit < end_at form start entry) ⊎ (end_at form start entry < start)
 
 -- what `end_of_all` says
-abbrev pub RunSays : Form → List ℕ → ℕ → ℕ → End → Type 0
-RunSays form table start limit (At end) = (end ≡ end_by form start table) × (end ≤ limit)
-RunSays form table start limit Misfit = Within form limit start table → ⊥
+abbrev pub RunSays : Form → List ℕ → ℕ → ℕ → Result ℕ Unsound → Type 0
+RunSays form table start limit (Ok end) = (end ≡ end_by form start table) × (end ≤ limit)
+RunSays form table start limit (Err _) = Within form limit start table → ⊥

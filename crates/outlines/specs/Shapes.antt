@@ -1,33 +1,32 @@
 -- What the calls over a ring table of either form promise: on entries that fit the reply of item 4, and otherwise some place or 15.
-use Rattle.std.specs.Prelude.{◌≡◌, cond, ◌⊎◌, List, map, ℕ, ◌/◌, ℤ, length}
+use Rattle.std.specs.Prelude.{◌≡◌, cond, ◌⊎◌, List, map, ℕ, ◌/◌, ℤ, length, Err, Ok}
 use Rattle.geom.specs.declared.Point.{Point}
 use Rattle.rules.specs.declared.Location.{Location}
 use Rattle.rules.specs.declared.Location.TheVariants.{Outside, Inside, OnBoundary}
 use Rattle.rules.specs.Edges.{all_edges, on_edge}
 use Rattle.rules.specs.Lists.{count_of, is_odd}
 use Rattle.rules.specs.declared.Refusal.TheVariants.{Unsound}
-use Rattle.rules.specs.declared.Reply.{Reply}
-use Rattle.rules.specs.declared.Reply.TheVariants.{At, Refused}
 use Rattle.outlines.specs.declared.rows.Form.{Form}
 use Rattle.rules.specs.Plans.{corners_of}
 use Rattle.rules.specs.Replies.{crosses, list_reply}
 use Rattle.rings.specs.Half.{near_doubled}
 use Rattle.outlines.specs.Rows.{Within, parts_from}
+use Rattle.rules.specs.Answering.{Reply}
 
 -- a place or 15
 abbrev pub Placed : Reply → Type 0
-Placed r = ((location : Location) × (r ≡ At location)) ⊎ (r ≡ Refused Unsound)
+Placed r = ((location : Location) × (r ≡ Ok location)) ⊎ (r ≡ Err Unsound)
 
 -- a place or 15, and this place where every entry fits
 pub record Shown (form : Form) (limit start : ℕ) (table : List ℕ) (location : Location) (r : Reply) : Type 0 where
   pub placed : Placed r
-  pub exact : Within form limit start table → r ≡ At location
+  pub exact : Within form limit start table → r ≡ Ok location
 
 -- the same of a list, whose polygon table cuts the rings
 pub record ListShown (form : Form) (coordinates : List ℤ) (rings polygons : List ℕ) (p : Point) (r : Reply) : Type 0 where
   pub placed : Placed r
   pub exact : Within form (length coordinates / 2) 0 rings → Within form (length rings) 0 polygons
-      → r ≡ At (list_reply (parts_from form (parts_from form (corners_of coordinates) 0 rings) 0 polygons) p)
+      → r ≡ Ok (list_reply (parts_from form (parts_from form (corners_of coordinates) 0 rings) 0 polygons) p)
 
 -- item 7's reply, of corners doubled where they are in range
 unfoldable pub half_near : List (List Point) → Point → Location

@@ -4,11 +4,11 @@ ghost use Rattle.rules.specs.Plans.{corners_of};
 ghost use Rattle.outlines.specs.Rows.{parts_from};
 ghost use Rattle.outlines.specs.Shapes.{Shown, half_near};
 
-use crate::rows::{End, Form, end_of};
+use crate::rows::{Form, end_of};
 use geom::Point;
 use rings::half::{parity_odd, parity_on, ring_parity};
 use rings::places::odd_place;
-use rules::{Location, Refusal, Reply};
+use rules::{Location, Reply};
 
 /// Where a doubled point lies: on any edge, or else inside exactly if an odd number of edges is crossed.
 pub fn half_reply(form: Form, coordinates: &[i64], rings: &[usize], p: Point) -> Reply
@@ -16,19 +16,15 @@ pub fn half_reply(form: Form, coordinates: &[i64], rings: &[usize], p: Point) ->
 {
     let limit = coordinates.len() / 2;
     let mut odd = false;
-    let mut at: usize = 0;
-    let mut k: usize = 0;
-    while k < rings.len() {
-        let End::At(end) = end_of(form, rings, k, at, limit) else {
-            return Reply::Refused(Refusal::Unsound);
-        };
+    let mut at = 0;
+    for &entry in rings {
+        let end = end_of(form, entry, at, limit)?;
         let parity = ring_parity(coordinates, at, end, p, odd);
         if parity_on(parity) {
-            return Reply::At(Location::OnBoundary);
+            return Ok(Location::OnBoundary);
         }
         odd = parity_odd(parity);
         at = end;
-        k += 1;
     }
-    Reply::At(odd_place(odd))
+    Ok(odd_place(odd))
 }

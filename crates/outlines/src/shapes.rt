@@ -5,13 +5,13 @@ ghost use Rattle.rules.specs.Replies.{holes_reply, polygon_reply, tree_reply};
 ghost use Rattle.outlines.specs.Rows.{parts_from};
 ghost use Rattle.outlines.specs.Shapes.{Shown, ListShown};
 
-use crate::rows::{End, Form, end_of, end_of_all};
+use crate::rows::{Form, end_of, end_of_all};
 use geom::Point;
 use plans::corner_at;
 use rings::crossings::{crossing_of, is_on, wound};
 use rings::places::{flipped, is_boundary, is_inside, odd_place, stronger, through_hole};
 use rings::ring::{closed, ring_reply};
-use rules::{Location, Refusal, Reply};
+use rules::{Location, Reply};
 
 // The holes in order: the first that the point is not outside of decides, and no later one is looked at. A hole decides at an edge that
 // the point is on, or once all its edges are counted; either leaves both loops by the label.
@@ -22,20 +22,15 @@ fn holes_reply(form: Form, coordinates: &[i64], rings: &[usize], start: usize, p
     let limit = coordinates.len() / 2;
     let mut place = Location::Inside;
     let mut at = start;
-    let mut k: usize = 0;
-    'holes: while k < rings.len() {
-        let End::At(end) = end_of(form, rings, k, at, limit) else {
-            return Reply::Refused(Refusal::Unsound);
-        };
-        k += 1;
+    'holes: for &entry in rings {
+        let end = end_of(form, entry, at, limit)?;
         if at == end {
             continue;
         }
         let first = corner_at(coordinates, at);
         let mut a = first;
         let mut winding: i64 = 0;
-        let mut i = at + 1;
-        while i < end {
+        for i in at + 1..end {
             let b = corner_at(coordinates, i);
             let crossing = crossing_of(a, b, p);
             if is_on(crossing) {
@@ -44,7 +39,6 @@ fn holes_reply(form: Form, coordinates: &[i64], rings: &[usize], start: usize, p
             }
             winding = wound(winding, crossing);
             a = b;
-            i += 1;
         }
         place = through_hole(closed(winding, crossing_of(a, first, p)));
         if !is_inside(place) {
@@ -52,7 +46,7 @@ fn holes_reply(form: Form, coordinates: &[i64], rings: &[usize], start: usize, p
         }
         at = end;
     }
-    Reply::At(place)
+    Ok(place)
 }
 
 /// Where p lies in a tree: on any ring's boundary, or else inside exactly if an odd number of rings go round it.
@@ -61,21 +55,17 @@ pub fn tree_reply(form: Form, coordinates: &[i64], rings: &[usize], p: Point) ->
 {
     let limit = coordinates.len() / 2;
     let mut odd = false;
-    let mut at: usize = 0;
-    let mut k: usize = 0;
-    while k < rings.len() {
-        let End::At(end) = end_of(form, rings, k, at, limit) else {
-            return Reply::Refused(Refusal::Unsound);
-        };
+    let mut at = 0;
+    for &entry in rings {
+        let end = end_of(form, entry, at, limit)?;
         let location = ring_reply(coordinates, at, end, p);
         if is_boundary(location) {
-            return Reply::At(Location::OnBoundary);
+            return Ok(Location::OnBoundary);
         }
         odd = flipped(odd, location);
         at = end;
-        k += 1;
     }
-    Reply::At(odd_place(odd))
+    Ok(odd_place(odd))
 }
 
 /// Where p lies in a polygon: its outer ring and then its holes.
@@ -83,18 +73,15 @@ fn polygon_reply(form: Form, coordinates: &[i64], rings: &[usize], start: usize,
     requires { 2 * start ≤ length coordinates.now }
     ensures { Shown form (length coordinates.now / 2) start rings.now (polygon_reply (parts_from form (corners_of coordinates.now) start rings.now) p) result }
 {
-    if rings.len() == 0 {
-        return Reply::At(Location::Outside);
-    }
-    let limit = coordinates.len() / 2;
-    let End::At(end) = end_of(form, rings, 0, start, limit) else {
-        return Reply::Refused(Refusal::Unsound);
+    let [outermost, holes @ ..] = rings else {
+        return Ok(Location::Outside);
     };
+    let end = end_of(form, *outermost, start, coordinates.len() / 2)?;
     let outer = ring_reply(coordinates, start, end, p);
     if !is_inside(outer) {
-        return Reply::At(outer);
+        return Ok(outer);
     }
-    holes_reply(form, coordinates, &rings[1..], end, p)
+    holes_reply(form, coordinates, holes, end, p)
 }
 
 /// Where p lies in a list of polygons: inside any of them wins, then boundary, then outside.
@@ -109,27 +96,19 @@ pub fn list_reply(
 {
     let limit = coordinates.len() / 2;
     let mut best = Location::Outside;
-    let mut first: usize = 0;
-    let mut start: usize = 0;
-    let mut k: usize = 0;
-    while k < polygons.len() {
-        let End::At(last) = end_of(form, polygons, k, first, rings.len()) else {
-            return Reply::Refused(Refusal::Unsound);
-        };
+    let mut first = 0;
+    let mut start = 0;
+    for &entry in polygons {
+        let last = end_of(form, entry, first, rings.len())?;
         let polygon = &rings[first..last];
-        let Reply::At(place) = polygon_reply(form, coordinates, polygon, start, p) else {
-            return Reply::Refused(Refusal::Unsound);
-        };
-        let End::At(next) = end_of_all(form, polygon, start, limit) else {
-            return Reply::Refused(Refusal::Unsound);
-        };
+        let place = polygon_reply(form, coordinates, polygon, start, p)?;
+        let next = end_of_all(form, polygon, start, limit)?;
         best = stronger(best, place);
         if is_inside(best) {
-            return Reply::At(Location::Inside);
+            return Ok(Location::Inside);
         }
         first = last;
         start = next;
-        k += 1;
     }
-    Reply::At(best)
+    Ok(best)
 }

@@ -9,17 +9,13 @@ use native.Mathlib.Omega.{arith}
 use borrow.Author.Tests.{lt-ltb, le-ltb}
 use lib.IntN.{ℤ}
 use lib.ListN.{get_or}
-use Rattle.geom.specs.declared.Point.{Point}
 use Rattle.boxes.specs.Rings.{start_of, next_corner, RingAt, RingEnds}
 use Rattle.boxes.proofs.Rings.{next_within, next_last, ring_inside, next_of_ring}
+use Rattle.walk.specs.declared.edges.Edge.{Edge}
 use Rattle.walk.specs.Edges.{EdgeSound, EdgeFound}
-use Rattle.walk.specs.Places.{PlaceSound}
+use Rattle.walk.specs.Places.{PlaceSound, PlaceFound}
 use Rattle.refit.specs.Paths.{RefitSound}
-use Rattle.placing.specs.declared.ways.Places.{Places}
-use Rattle.placing.specs.declared.ways.Places as Places
-use Rattle.placing.specs.declared.ways.Ways.{Ways}
-use Rattle.placing.specs.declared.ways.Ways as Ways
-use Rattle.placing.specs.Ways.{previous_in, CorrectionSound, PlacesFound, PlacesSay, TwoPlacesSay, TwoWaysSay, WaysSay}
+use Rattle.placing.specs.Ways.{previous_in, CorrectionSound, PlacesFound}
 
 -- ---- the corner before one, in a ring
 pub previous_within : (start end e : ℕ) → start < e → previous_in start end e ≡ e - 1
@@ -59,23 +55,20 @@ module _ (n count : ℕ) (corners : List ℤ) (rings : List ℕ) (boxes : List (
   refit_sound = record { few = S.few; ends = S.ends; index = S.index }
 
 -- ---- from the edges before and after a corner to its places
-module _ (n count : ℕ) (corners : List ℤ) (rings : List ℕ) (boxes : List (List ℤ)) (parts : List (List ℕ)) (edges : List ℕ) (i : ℕ) where
-  pub places_say : (ring : ℕ) (a b : Point) → EdgeFound n count corners rings i ring a b → (before : ℕ) → before ≡ previous_in (start_of rings ring) (get_or rings ring 0) i
-      → (r : Places) → TwoPlacesSay n count corners rings boxes parts edges i before r → PlacesSay n count corners rings boxes parts edges i r
+module _ (n count : ℕ) (corners : List ℤ) (rings : List ℕ) (boxes : List (List ℤ)) (parts : List (List ℕ)) (edges : List ℕ) (i : ℕ) (edge : Edge) (F : EdgeFound n count corners rings i edge) (previous : ℕ) (e : previous ≡ previous_in (start_of rings edge.ring) (get_or rings edge.ring 0) i) where
+  -- the corner before it is one of the plan's
+  pub previous_inside : RingEnds n count rings → previous < n
   unfolding before
-  places_say ring a b F before e (Places.TheVariants.At k l) T = record {
-    one = F.one;
-    corners_reach = T.corners_reach;
-    boxes_reach = T.boxes_reach;
-    start_place = T.one.inside;
-    stop_place = T.other.inside;
-    starts = T.one.edge;
-    stops = λ R. ap (next_corner rings) (T.other.edge ∙ e) ∙ (previous_turns n count rings R i ring F.holds).1;
-  }
-  places_say ring a b F before e Places.TheVariants.Unsound T =
-      λ S l. T S l (subst (λ (m : ℕ). m < n) (sym e) (ring_inside n count rings S.ends _ ring (previous_turns n count rings S.ends i ring F.holds).0))
+  previous_inside R = subst (λ (m : ℕ). m < n) (sym e) (ring_inside n count rings R _ edge.ring (previous_turns n count rings R i edge.ring F.holds).0)
 
-  -- and to the ways there
-  pub ways_say : (k l : ℕ) → PlacesFound n count corners rings boxes edges i k l → (path stops path₂ stops₂ : List ℕ) (r : Ways) → TwoWaysSay n count rings parts edges k l path stops path₂ stops₂ r → WaysSay n count corners rings boxes parts edges i path stops path₂ stops₂ r
-  ways_say k l F path stops path₂ stops₂ (Ways.TheVariants.At depth depth₂) T = record { start_place = k; stop_place = l; places = F; ways = T }
-  ways_say k l F path stops path₂ stops₂ Ways.TheVariants.Unsound T = λ room S one. T room F.start_place F.stop_place corners boxes S
+  pub places_found : (after before : ℕ) → PlaceFound n count corners rings boxes parts edges i after → PlaceFound n count corners rings boxes parts edges previous before → PlacesFound n count corners rings boxes edges i (record { after = after; before = before })
+  unfolding before
+  places_found after before P Q = record {
+    one = F.one;
+    corners_reach = F.reach;
+    boxes_reach = P.index.boxes_reach;
+    start_place = P.stands.inside;
+    stop_place = Q.stands.inside;
+    starts = P.stands.edge;
+    stops = λ R. ap (next_corner rings) (Q.stands.edge ∙ e) ∙ (previous_turns n count rings R i edge.ring F.holds).1;
+  }

@@ -5,68 +5,44 @@ ghost use Rattle.std.specs.Prelude.{◌≡◌, ◌+◌, ◌*◌, ◌<◌, length
 ghost use Rattle.model.specs.Entries.{put_corner};
 ghost use Rattle.placing.specs.Places.{Placeable, Placed, CorrectionSays};
 
-mod ways;
+mod places;
 
 use geom::Point;
-use index::build::LEAF;
+use places::places_of;
 use plans::corner_at;
-use refit::{DEPTH, refit};
-use ways::{Ways, find_ways};
-
-/// A corner put at a place.
-#[derive(Clone, Copy)]
-pub enum Correction {
-    /// The place where it stood before.
-    Made(Point),
-    /// 15: nothing is written.
-    Unsound,
-}
+use refit::{Way, find_way, refit};
+use rules::Unsound;
 
 // Puts corner i of a coordinate list at a place.
 fn put_corner(corners: &mut [i64], i: usize, place: Point)
     requires { 2 * i + 1 < length corners.old }
     ensures { corners.new ≡ put_corner corners.old i place }
 {
-    let x = place.x;
-    let y = place.y;
-    corners[2 * i] = x;
-    corners[2 * i + 1] = y;
+    corners[2 * i] = place.x;
+    corners[2 * i + 1] = place.y;
 }
 
-// Puts corner i at a place, and makes anew the boxes on the paths to its two edges, one path after the other.
+// Puts corner i at a place, and makes anew the boxes on the ways to its two edges, the one after it and the one before it.
 fn place_corner(
     corners: &mut [i64],
     boxes: &mut [[i64; 4]],
     parts: &[[usize; 3]],
     edges: &[usize],
-    path: &[usize],
-    stops: &[usize],
-    other_path: &[usize],
-    other_stops: &[usize],
+    after: &Way,
+    before: &Way,
     n: usize,
-    depth: usize,
-    other_depth: usize,
     i: usize,
     place: Point,
 )
-    requires { Placeable n i corners.old boxes.old parts.now edges.now path.now stops.now other_path.now other_stops.now depth other_depth }
-    ensures { Placed i place corners.old boxes.old parts.now edges.now path.now stops.now other_path.now other_stops.now depth other_depth corners.new boxes.new }
+    requires { Placeable n i corners.old boxes.old parts.now edges.now after.now before.now }
+    ensures { Placed i place corners.old boxes.old parts.now edges.now after.now before.now corners.new boxes.new }
 {
     put_corner(corners, i, place);
-    refit(corners, boxes, parts, edges, path, stops, n, depth);
-    refit(
-        corners,
-        boxes,
-        parts,
-        edges,
-        other_path,
-        other_stops,
-        n,
-        other_depth,
-    );
+    refit(corners, boxes, parts, edges, after, n);
+    refit(corners, boxes, parts, edges, before, n);
 }
 
-/// Puts corner i of n, in `count` rings, at a place. All that can refuse is found and tested before the first write: `Unsound` (15)
+/// Puts corner i of n, in `count` rings, at a place, and gives the place where it stood before. All that can refuse is found and tested before the first write: `Unsound` (15)
 /// leaves every table as it was, and comes on no sound tables that have a corner i.
 pub fn correct(
     corners: &mut [i64],
@@ -78,46 +54,13 @@ pub fn correct(
     count: usize,
     i: usize,
     place: Point,
-) -> Correction
+) -> Result<Point, Unsound>
     ensures { CorrectionSays n count rings.now parts.now edges.now i place corners.old boxes.old corners.new boxes.new result }
 {
-    let mut path: [usize; DEPTH] = [0; DEPTH];
-    let mut stops: [usize; LEAF] = [0; LEAF];
-    let mut other_path: [usize; DEPTH] = [0; DEPTH];
-    let mut other_stops: [usize; LEAF] = [0; LEAF];
-    match find_ways(
-        &mut path,
-        &mut stops,
-        &mut other_path,
-        &mut other_stops,
-        corners,
-        rings,
-        boxes,
-        parts,
-        edges,
-        n,
-        count,
-        i,
-    ) {
-        Ways::Unsound => Correction::Unsound,
-        Ways::At(depth, other_depth) => {
-            let old = corner_at(corners, i);
-            place_corner(
-                corners,
-                boxes,
-                parts,
-                edges,
-                &path,
-                &stops,
-                &other_path,
-                &other_stops,
-                n,
-                depth,
-                other_depth,
-                i,
-                place,
-            );
-            Correction::Made(old)
-        }
-    }
+    let places = places_of(corners, rings, boxes, parts, edges, n, count, i)?;
+    let after = find_way(rings, parts, edges, n, count, places.after)?;
+    let before = find_way(rings, parts, edges, n, count, places.before)?;
+    let old = corner_at(corners, i);
+    place_corner(corners, boxes, parts, edges, &after, &before, n, i, place);
+    Ok(old)
 }

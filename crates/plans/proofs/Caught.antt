@@ -1,5 +1,6 @@
 -- Wrong programs that the contracts rule out, whatever their code is: what a promise gives where such a program gives something else.
 -- Assumes nothing.
+use Rattle.std.specs.Prelude.{Err}
 use mathlib.Core.Path.{◌≡◌, refl}
 use mathlib.Core.Bool.{false}
 use mathlib.Core.List.{List, [], ◌∷◌}
@@ -7,9 +8,9 @@ use Prim.Native.Nat.{ℕ}
 use lib.IntN.{ℤ, pos}
 use Rattle.rules.specs.declared.Kind.TheVariants.{Polygons}
 use Rattle.rules.specs.declared.Refusal.TheVariants.{Uneven}
-use Rattle.rules.specs.declared.Verdict.TheVariants.{Accepted, Refused}
 use Rattle.rules.specs.Lists.{any_of, total}
 use Rattle.rules.specs.Plans.{Plan, corners_of, too_many, uneven, plan_verdict, all_in_range}
+use Rattle.rules.specs.Answering.{Accepted}
 
 abbrev listed : List ℤ → List ℕ → List ℕ → Plan
 listed coordinates lengths counts = record { kind = Polygons; coordinates = coordinates; lengths = lengths; counts = counts }
@@ -20,11 +21,11 @@ unfolding plan_verdict too_many uneven total any_of
 one_corner = refl
 
 -- an odd list, and a polygon of no rings
-odd_list : plan_verdict (listed (pos 0 ∷ pos 0 ∷ pos 0 ∷ []) (1 ∷ []) (1 ∷ [])) ≡ Refused Uneven
+odd_list : plan_verdict (listed (pos 0 ∷ pos 0 ∷ pos 0 ∷ []) (1 ∷ []) (1 ∷ [])) ≡ Err Uneven
 unfolding plan_verdict too_many uneven total any_of
 odd_list = refl
 
-no_rings : plan_verdict (listed (pos 0 ∷ pos 0 ∷ []) (1 ∷ []) (1 ∷ 0 ∷ [])) ≡ Refused Uneven
+no_rings : plan_verdict (listed (pos 0 ∷ pos 0 ∷ []) (1 ∷ []) (1 ∷ 0 ∷ [])) ≡ Err Uneven
 unfolding plan_verdict too_many uneven total any_of
 no_rings = refl
 

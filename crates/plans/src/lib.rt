@@ -6,7 +6,7 @@ ghost use Rattle.rules.specs.Lists.{any_of, total};
 ghost use Rattle.rules.specs.Plans.{corners_of, corner_at, is_list, too_many, uneven, Judged, all_in_range};
 
 use geom::Point;
-use rules::{Kind, Refusal, Verdict, is_list};
+use rules::{Kind, Refusal, is_list};
 
 /// The most corners that a plan may have.
 pub const MAX_CORNERS: usize = 1048576;
@@ -22,23 +22,20 @@ pub fn corner_at(coordinates: &[i64], i: usize) -> Point
     requires { 2 * i + 1 < length coordinates.now }
     ensures { result ≡ corner_at coordinates.now i }
 {
-    let x = coordinates[2 * i];
-    let y = coordinates[2 * i + 1];
-    Point { x: x, y: y }
+    Point {
+        x: coordinates[2 * i],
+        y: coordinates[2 * i + 1],
+    }
 }
 
 /// Whether every corner of a coordinate list is in range. An odd number at the end is no corner. Nothing is refused.
 pub fn all_in_range(coordinates: &[i64]) -> bool
     ensures { result ≡ all_in_range (corners_of coordinates.now) }
 {
-    let corners = coordinates.len() / 2;
-    let mut i = 0;
-    while i < corners {
-        let corner = corner_at(coordinates, i);
-        if !corner.in_range() {
+    for i in 0..coordinates.len() / 2 {
+        if !corner_at(coordinates, i).in_range() {
             return false;
         }
-        i += 1;
     }
     true
 }
@@ -48,14 +45,11 @@ fn sums_to(table: &[usize], n: usize) -> bool
     ensures { result ≡ eqb (total table.now) n }
 {
     let mut left = n;
-    let mut i = 0;
-    while i < table.len() {
-        let entry = table[i];
-        if entry > left {
+    for &entry in table {
+        let Some(rest) = left.checked_sub(entry) else {
             return false;
-        }
-        left -= entry;
-        i += 1;
+        };
+        left = rest;
     }
     left == 0
 }
@@ -64,40 +58,34 @@ fn sums_to(table: &[usize], n: usize) -> bool
 pub fn has_zero(counts: &[usize]) -> bool
     ensures { result ≡ any_of (λ n. eqb n 0) counts.now }
 {
-    let mut i = 0;
-    while i < counts.len() {
-        if counts[i] == 0 {
-            return true;
-        }
-        i += 1;
-    }
-    false
+    counts.contains(&0)
 }
 
 // Whether a list's ring counts do not sum to its rings, or a polygon has no rings. A tree's are not looked at.
 fn counts_uneven(kind: Kind, counts: &[usize], rings: usize) -> bool
     ensures { result ≡ is_list kind && (not (eqb (total counts.now) rings) || any_of (λ n. eqb n 0) counts.now) }
 {
-    if !is_list(kind) {
-        return false;
-    }
-    !sums_to(counts, rings) | has_zero(counts)
+    is_list(kind) && (!sums_to(counts, rings) || has_zero(counts))
 }
 
 // Refusal 4: a count above its ceiling. A tree's polygons are not looked at.
+#[tactic(auto, unfolding(rules::specs::Plans::too_many))]
 fn too_many(kind: Kind, coordinates: &[i64], lengths: &[usize], counts: &[usize]) -> bool
     ensures { result ≡ too_many (record { kind = kind; coordinates = coordinates.now; lengths = lengths.now; counts = counts.now }) }
 {
-    (coordinates.len() / 2 > MAX_CORNERS)
-        | ((lengths.len() > MAX_RINGS) | (is_list(kind) & (counts.len() > MAX_POLYGONS)))
+    coordinates.len() / 2 > MAX_CORNERS
+        || lengths.len() > MAX_RINGS
+        || (is_list(kind) && counts.len() > MAX_POLYGONS)
 }
 
 // Refusal 3: an odd coordinate list, ring lengths not summing to the corners, or uneven ring counts of a list.
+#[tactic(auto, unfolding(rules::specs::Plans::uneven))]
 fn uneven(kind: Kind, coordinates: &[i64], lengths: &[usize], counts: &[usize]) -> bool
     ensures { result ≡ uneven (record { kind = kind; coordinates = coordinates.now; lengths = lengths.now; counts = counts.now }) }
 {
-    (coordinates.len() % 2 == 1)
-        | (!sums_to(lengths, coordinates.len() / 2) | counts_uneven(kind, counts, lengths.len()))
+    coordinates.len() % 2 == 1
+        || !sums_to(lengths, coordinates.len() / 2)
+        || counts_uneven(kind, counts, lengths.len())
 }
 
 /// Refusals 4 and 3 of a plan, or that it is accepted: coordinates x, y, x, y, .., the length of each ring, and how many rings each
@@ -107,14 +95,19 @@ fn uneven(kind: Kind, coordinates: &[i64], lengths: &[usize], counts: &[usize]) 
 /// counts as half its length, rounded down. Otherwise refused with 3 (`Uneven`) where the coordinate list is odd, where the lengths do
 /// not sum to the corners or, for a list, where the counts do not sum to the rings or a polygon has no rings. A tree's counts are not
 /// looked at.
-pub fn judge(kind: Kind, coordinates: &[i64], lengths: &[usize], counts: &[usize]) -> Verdict
+pub fn judge(
+    kind: Kind,
+    coordinates: &[i64],
+    lengths: &[usize],
+    counts: &[usize],
+) -> Result<(), Refusal>
     ensures { Judged (record { kind = kind; coordinates = coordinates.now; lengths = lengths.now; counts = counts.now }) result }
 {
     if too_many(kind, coordinates, lengths, counts) {
-        return Verdict::Refused(Refusal::TooMany);
+        return Err(Refusal::TooMany);
     }
     if uneven(kind, coordinates, lengths, counts) {
-        return Verdict::Refused(Refusal::Uneven);
+        return Err(Refusal::Uneven);
     }
-    Verdict::Accepted
+    Ok(())
 }

@@ -12,7 +12,7 @@ use mir.Syntax.{w64}
 use mir.Val.{SFits}
 use Rattle.integers.specs.declared.SignedWide.{SignedWide}
 use Rattle.integers.specs.Words.{word_pair, wide_value_of, top_bit, signed_words_of}
-use Rattle.integers.proofs.Bits.{rd, rd_is, abs_fits}
+use Rattle.integers.proofs.Bits.{rd, rd_is, read₂}
 use Rattle.integers.proofs.Borrows.{top_bit_lem, signed_words}
 use Rattle.integers.proofs.Order.{zarith, add_parts, sub_parts, neg_parts, abs_parts, mag_parts, thin}
 use Rattle.integers.proofs.Sizes.{abs_sub, abs_flip, abs_apart, abs_mul}
@@ -117,6 +117,29 @@ product_fits a b c d fa fb fc fd =
     one_word : (x y : ℤ) → SFits w64 x → SFits w64 y → nat_abs (x -ℤ y) ≤ 18446744073709551615
     one_word x y fx fy = apart (negsuc 9223372036854775807) 18446744073709551615 x y (any_span x fx) (any_span y fy)
 
+-- of two differences, of numbers read back
+pub factors_fit : (a b c d p q : ℤ) → SFits w64 a → SFits w64 b → SFits w64 c → SFits w64 d → p ≡ rd a -ℤ rd b → q ≡ rd c -ℤ rd d → nat_abs (p *ℤ q) < word_pair
+factors_fit a b c d p q fa fb fc fd e f =
+    subst (λ z. nat_abs z < word_pair) (sym (λ i. (e ∙ read₂ ◌-ℤ◌ a b fa fb) i *ℤ (f ∙ read₂ ◌-ℤ◌ c d fc fd) i)) (product_fits a b c d fa fb fc fd)
+
+-- the difference of two products, of differences of coordinates read back: it fits, and is the turn
+pub record Crossed (a b c : Point) (p q : ℤ) : Type 0 where
+  pub fits : nat_abs (p -ℤ q) < word_pair
+  pub turn : p -ℤ q ≡ orientation a b c
+
+pub crossed : (a b c : Point) (bx by cx cy p q : ℤ) → Fits a → Fits b → Fits c → bx ≡ rd b.x -ℤ rd a.x → cy ≡ rd c.y -ℤ rd a.y → p ≡ bx *ℤ cy → by ≡ rd b.y -ℤ rd a.y → cx ≡ rd c.x -ℤ rd a.x → q ≡ by *ℤ cx → Crossed a b c p q
+unfolding orientation
+crossed a b c bx by cx cy p q fa fb fc is_bx is_cy is_p is_by is_cx is_q = record { fits = subst (λ z. nat_abs z < word_pair) (sym turn) (turn_fits a b c fa fb fc); turn = turn }
+  where
+    first : p ≡ (b.x -ℤ a.x) *ℤ (c.y -ℤ a.y)
+    first = is_p ∙ (λ i. (is_bx ∙ read₂ ◌-ℤ◌ b.x a.x fb.0 fa.0) i *ℤ (is_cy ∙ read₂ ◌-ℤ◌ c.y a.y fc.1 fa.1) i)
+
+    second : q ≡ (b.y -ℤ a.y) *ℤ (c.x -ℤ a.x)
+    second = is_q ∙ (λ i. (is_by ∙ read₂ ◌-ℤ◌ b.y a.y fb.1 fa.1) i *ℤ (is_cx ∙ read₂ ◌-ℤ◌ c.x a.x fc.0 fa.0) i)
+
+    turn : p -ℤ q ≡ (b.x -ℤ a.x) *ℤ (c.y -ℤ a.y) -ℤ (b.y -ℤ a.y) *ℤ (c.x -ℤ a.x)
+    turn = λ i. first i -ℤ second i
+
 -- the two products, of coordinates read back, differ by the turn
 pub products_turn : (ax ay bx by cx cy : ℤ) (p q : SignedWide) → SFits w64 ax → SFits w64 ay → SFits w64 bx → SFits w64 by → SFits w64 cx → SFits w64 cy
     → wide_value_of p ≡ (rd bx -ℤ rd ax) *ℤ (rd cy -ℤ rd ay) → wide_value_of q ≡ (rd by -ℤ rd ay) *ℤ (rd cx -ℤ rd ax)
@@ -126,12 +149,7 @@ products_turn ax ay bx by cx cy p q fax fay fbx fby fcx fcy e f =
     (λ i. e i -ℤ f i)
     ∙ (λ i. (rd_is bx fbx i -ℤ rd_is ax fax i) *ℤ (rd_is cy fcy i -ℤ rd_is ay fay i) -ℤ (rd_is by fby i -ℤ rd_is ay fay i) *ℤ (rd_is cx fcx i -ℤ rd_is ax fax i))
 
-pub products_fit : (a b c : Point) (p q : SignedWide) → Fits a → Fits b → Fits c → wide_value_of p -ℤ wide_value_of q ≡ orientation a b c → nat_abs (wide_value_of p -ℤ wide_value_of q) < word_pair
-products_fit a b c p q ha hb hc e = subst (λ z. nat_abs z < word_pair) (sym e) (turn_fits a b c ha hb hc)
-
 -- ---- points of 63 bits
-pub less_nothing : (x : ℤ) → x -ℤ pos 0 ≡ x
-less_nothing x = omega (zarith, sub_parts x (pos 0))
 
 narrow_span : (z : ℤ) → is_narrow z ≡ true → Span (neg_ℤ (pos (2 ^ 62))) 9223372036854775807 z
 narrow_span z e =
@@ -140,10 +158,6 @@ narrow_span z e =
       from = true_le (neg_ℤ (pos (2 ^ 62))) z h.0;
       to = omega (zarith, true_lt z (pos (2 ^ 62)) h.1, add_parts (neg_ℤ (pos (2 ^ 62))) (pos 9223372036854775807));
     }
-
--- 64 bits hold their differences
-pub narrow_apart : (x y : ℤ) → is_narrow x ≡ true → is_narrow y ≡ true → SFits w64 (x -ℤ y)
-narrow_apart x y hx hy = abs_fits (x -ℤ y) (omega (arith, apart (neg_ℤ (pos (2 ^ 62))) 9223372036854775807 x y (narrow_span x hx) (narrow_span y hy)))
 
 -- two words alone, read as a signed number, are their turn: the borrow is the top bit
 pub narrow_words : (ax ay bx by cx cy : ℤ) (d : SignedWide) → AllNarrow ax ay bx by cx cy → d.words.lo < 2 ^ 64 → wide_value_of d ≡ orientation (record { x = ax; y = ay }) (record { x = bx; y = by }) (record { x = cx; y = cy })

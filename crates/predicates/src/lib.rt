@@ -1,34 +1,32 @@
 // Exact predicates on points (src/predicates.rs; document 01, item 2).
 #![tactic(auto)]
 
-ghost use Rattle.std.specs.Prelude.{◌≡◌, true, ◌-ℤ◌, ◌*ℤ◌};
+ghost use Rattle.std.specs.Prelude.{◌≡◌, true, ◌-ℤ◌};
 ghost use Rattle.integers.specs.Signs.{sign_of};
-ghost use Rattle.integers.specs.Words.{wide_value_of};
+ghost use Rattle.integers.specs.Words.{value_of, wide_value_of};
 ghost use Rattle.predicates.specs.Turn.{is_narrow, AllNarrow, orientation, on_segment};
 
 use geom::{Point, Rect};
-use integers::{Sign, SignedWide, difference, sign_of, signed_difference, signed_product, top_bit};
+use integers::{
+    Sign, Signed, SignedWide, difference, sign_of, signed_difference, signed_product, top_bit,
+};
+
+// 2^62: numbers from -2^62 to before it are those that 63 bits hold.
+const NARROW: i64 = 1 << 62;
 
 // Whether 63 bits hold a coordinate, so that 64 hold its difference from any other such one. All of grid and doubled points are so narrow.
 fn is_narrow(z: i64) -> bool
     ensures { result ≡ is_narrow z }
 {
-    (-4611686018427387904 <= z) & (z < 4611686018427387904)
+    (-NARROW <= z) & (z < NARROW)
 }
 
-// The exact value of (a - b) * (c - d) for numbers of 63 bits, whose differences are plain ones.
-fn narrow_product(a: i64, b: i64, c: i64, d: i64) -> SignedWide
-    requires { (is_narrow a ≡ true) × (is_narrow b ≡ true) × (is_narrow c ≡ true) × (is_narrow d ≡ true) }
-    ensures { wide_value_of result ≡ (a -ℤ b) *ℤ (c -ℤ d) }
+// The exact difference of two numbers of 63 bits, a plain one.
+fn narrow_difference(a: i64, b: i64) -> Signed
+    requires { (is_narrow a ≡ true) × (is_narrow b ≡ true) }
+    ensures { value_of result ≡ a -ℤ b }
 {
-    signed_product(difference(a - b, 0), difference(c - d, 0))
-}
-
-// The exact value of (a - b) * (c - d).
-fn product_of_differences(a: i64, b: i64, c: i64, d: i64) -> SignedWide
-    ensures { wide_value_of result ≡ (a -ℤ b) *ℤ (c -ℤ d) }
-{
-    signed_product(difference(a, b), difference(c, d))
+    difference(a - b, 0)
 }
 
 // The turn of three points of 63-bit coordinates: the top bit of its words is the borrow.
@@ -36,13 +34,12 @@ fn narrow_turn(ax: i64, ay: i64, bx: i64, by: i64, cx: i64, cy: i64) -> SignedWi
     requires { AllNarrow ax ay bx by cx cy }
     ensures { wide_value_of result ≡ orientation (record { x = ax; y = ay }) (record { x = bx; y = by }) (record { x = cx; y = cy }) }
 {
-    let p = narrow_product(bx, ax, cy, ay);
-    let q = narrow_product(by, ay, cx, ax);
+    let p = signed_product(narrow_difference(bx, ax), narrow_difference(cy, ay));
+    let q = signed_product(narrow_difference(by, ay), narrow_difference(cx, ax));
     let turn = signed_difference(p, q);
-    let words = turn.words;
     SignedWide {
-        borrow: top_bit(words),
-        words: words,
+        borrow: top_bit(turn.words),
+        ..turn
     }
 }
 
@@ -50,8 +47,8 @@ fn narrow_turn(ax: i64, ay: i64, bx: i64, by: i64, cx: i64, cy: i64) -> SignedWi
 fn any_turn(ax: i64, ay: i64, bx: i64, by: i64, cx: i64, cy: i64) -> SignedWide
     ensures { wide_value_of result ≡ orientation (record { x = ax; y = ay }) (record { x = bx; y = by }) (record { x = cx; y = cy }) }
 {
-    let p = product_of_differences(bx, ax, cy, ay);
-    let q = product_of_differences(by, ay, cx, ax);
+    let p = signed_product(difference(bx, ax), difference(cy, ay));
+    let q = signed_product(difference(by, ay), difference(cx, ax));
     signed_difference(p, q)
 }
 
@@ -85,12 +82,5 @@ pub fn orient(a: Point, b: Point, c: Point) -> Sign
 pub fn on_segment(a: Point, b: Point, p: Point) -> bool
     ensures { result ≡ on_segment a b p }
 {
-    if !Rect::new(a, b).contains_point(p) {
-        return false;
-    }
-    match orient(a, b, p) {
-        Sign::Negative => false,
-        Sign::Zero => true,
-        Sign::Positive => false,
-    }
+    Rect::new(a, b).contains_point(p) && orient(a, b, p) == Sign::Zero
 }

@@ -1,4 +1,5 @@
 -- Wrong ways of preparing that the contract rules out, whatever the code is. Assumes nothing.
+use Rattle.std.specs.Prelude.{Err, Ok}
 use mathlib.Core.Path.{◌≡◌, sym, ◌∙◌, ap}
 use mathlib.Core.Bool.{true, false, not}
 use mathlib.Core.List.{List, [], ◌∷◌}
@@ -13,7 +14,6 @@ use Rattle.rules.specs.declared.Refusal.{Refusal}
 use Rattle.rules.specs.declared.Refusal.TheVariants.{Uneven, TooMany, TableTooShort}
 use Rattle.rules.specs.declared.State.{State}
 use Rattle.rules.specs.declared.Table.TheVariants as Table
-use Rattle.rules.specs.declared.Verdict.TheVariants.{Accepted}
 use Rattle.rules.specs.Lists.{any_of, total}
 use Rattle.rules.specs.Nodes.{nodes_within, node_count}
 use Rattle.rules.specs.Plans.{Plan, corners_of, corner_count, too_many, uneven, plan_verdict, all_in_range, plan_in_range}
@@ -23,13 +23,12 @@ use Rattle.boxes.specs.Boxes.{box_of, row_of}
 use Rattle.index.specs.Parts.{first_at}
 use Rattle.index.specs.Sound.{Smallest}
 use Rattle.index.proofs.Counts.{node_count_some}
-use Rattle.prepare.specs.declared.Preparing.{Preparing}
-use Rattle.prepare.specs.declared.Preparing.TheVariants.{Ready, Refused}
 use Rattle.prepare.specs.declared.Room.{Room}
-use Rattle.prepare.specs.Answers.{preparing_number, preparing_detail, state_of, with_nodes, with_room, preparing}
+use Rattle.prepare.specs.Answers.{preparing_number, preparing_detail, state_of, with_nodes, with_room, preparing, Preparing, ready_with}
 use Rattle.prepare.specs.Tables.{Tables, room_of, Left, Prepared}
 use Rattle.prepare.proofs.Readiness.{state_is, index_sound, nodes_all, nodes_none, index_unwritten}
 use Rattle.prepare.proofs.Rooms.{refused_first, accepted_next, ready_unindexed, ready_indexed, different}
+use Rattle.rules.specs.Answering.{Accepted}
 
 -- ---- each number under its condition alone, in the order 4, 3, 11
 
@@ -47,41 +46,41 @@ pub record EnoughNodes (plan : Plan) (room : Room) : Type 0 where
 
 module _ (plan : Plan) (before after : Tables) (r : Preparing) (P : Prepared plan before after r) where
   -- 4 comes before 3 and 11, however short the tables are
-  pub too_many_named : too_many plan ≡ true → r ≡ Refused TooMany
+  pub too_many_named : too_many plan ≡ true → r ≡ Err TooMany
   too_many_named e = P.answer ∙ sym (refused_first plan (room_of before) TooMany (too_many_first plan e))
 
   -- 3 comes before 11, however short the tables are
-  pub uneven_named : too_many plan ≡ false → uneven plan ≡ true → r ≡ Refused Uneven
+  pub uneven_named : too_many plan ≡ false → uneven plan ≡ true → r ≡ Err Uneven
   uneven_named e f = P.answer ∙ sym (refused_first plan (room_of before) Uneven (uneven_second plan e f))
 
   module _ (accepted : plan_verdict plan ≡ Accepted) (room : Enough plan (room_of before)) where
     -- 11 always, or any refusal throughout: a plan in range that has room is ready, with N(n)
-    pub near_ready : plan_in_range plan ≡ true → EnoughNodes plan (room_of before) → r ≡ Ready (state_of plan) (node_count (corner_count plan))
+    pub near_ready : plan_in_range plan ≡ true → EnoughNodes plan (room_of before) → r ≡ ready_with (state_of plan) (node_count (corner_count plan))
     near_ready near nodes =
         P.answer
         ∙ sym (ready_indexed (state_of plan) (room_of before) room.corners_reach room.rings_reach room.polygons_reach (ap not near) nodes.boxes_reach nodes.parts_reach nodes.edges_reach
         ∙ accepted_next plan (room_of before) accepted)
 
     -- 11 for nodes or edges of a marked plan, which needs none
-    pub stray_ready : plan_in_range plan ≡ false → r ≡ Ready (state_of plan) 0
+    pub stray_ready : plan_in_range plan ≡ false → r ≡ ready_with (state_of plan) 0
     stray_ready stray =
         P.answer
         ∙ sym (ready_unindexed (state_of plan) (room_of before) room.corners_reach room.rings_reach room.polygons_reach (ap not stray) ∙ accepted_next plan (room_of before) accepted)
 
 -- refusal throughout
-module _ (plan : Plan) (before after : Tables) (refusal : Refusal) (P : Prepared plan before after (Refused refusal)) (accepted : plan_verdict plan ≡ Accepted) (room : Enough plan (room_of before)) where
+module _ (plan : Plan) (before after : Tables) (refusal : Refusal) (P : Prepared plan before after (Err refusal)) (accepted : plan_verdict plan ≡ Accepted) (room : Enough plan (room_of before)) where
   pub not_refused_near : plan_in_range plan ≡ true → EnoughNodes plan (room_of before) → ⊥
-  not_refused_near near nodes = different (state_of plan) (node_count (corner_count plan)) refusal (sym (near_ready plan before after (Refused refusal) P accepted room near nodes))
+  not_refused_near near nodes = different (state_of plan) (node_count (corner_count plan)) refusal (sym (near_ready plan before after (Err refusal) P accepted room near nodes))
 
   pub not_refused_stray : plan_in_range plan ≡ false → ⊥
-  not_refused_stray stray = different (state_of plan) 0 refusal (sym (stray_ready plan before after (Refused refusal) P accepted room stray))
+  not_refused_stray stray = different (state_of plan) 0 refusal (sym (stray_ready plan before after (Err refusal) P accepted room stray))
 
 -- tables written before a refusal
-pub refusal_writes_nothing : (plan : Plan) (before after : Tables) (refusal : Refusal) → Prepared plan before after (Refused refusal) → after ≡ before
+pub refusal_writes_nothing : (plan : Plan) (before after : Tables) (refusal : Refusal) → Prepared plan before after (Err refusal) → after ≡ before
 refusal_writes_nothing plan before after refusal P = P.tables
 
 -- ---- the nodes reported
-module _ (plan : Plan) (before after : Tables) (state : State) (nodes : ℕ) (P : Prepared plan before after (Ready state nodes)) where
+module _ (plan : Plan) (before after : Tables) (state : State) (nodes : ℕ) (P : Prepared plan before after (ready_with state nodes)) where
   -- a node count that is not N(n)
   pub not_other_than_all : plan_in_range plan ≡ true → (nodes ≡ node_count (corner_count plan) → ⊥) → ⊥
   not_other_than_all near f = f (nodes_all plan before after state nodes P near ∙ ap (λ s. node_count s.corners) (state_is plan before after state nodes P))
@@ -117,8 +116,8 @@ module _ (coordinates : List ℤ) (lengths counts : List ℕ) (before after : Ta
   tree_polygons_unwritten P = go r P.tables
     where
       go : (q : Preparing) → Left tree before after q → after.polygons ≡ before.polygons
-      go (Ready state nodes) left = left.plan_put.polygons_are
-      go (Refused refusal) left = ap (λ t. t.polygons) left
+      go (Ok ready) left = left.plan_put.polygons_are
+      go (Err refusal) left = ap (λ t. t.polygons) left
 
 -- tested: room for no polygons is enough
 pub tree_polygons_unneeded : (coordinates : List ℤ) (lengths counts : List ℕ) (room : Room) → (state_of (record { kind = Tree; coordinates = coordinates; lengths = lengths; counts = counts })).polygons ≤ room.polygons
@@ -134,24 +133,24 @@ lent corners rings polygons boxes parts edges =
     record { corners = replicate corners (pos 7); rings = replicate rings 7; polygons = replicate polygons 7; boxes = replicate boxes []; parts = replicate parts []; edges = replicate edges 7 }
 
 module _ (after : Tables) (r : Preparing) where
-  pub corners_named : Prepared (one Polygons) (lent 1 0 0 0 0 0) after r → r ≡ Refused (TableTooShort Table.Corners)
+  pub corners_named : Prepared (one Polygons) (lent 1 0 0 0 0 0) after r → r ≡ Err (TableTooShort Table.Corners)
   unfolding preparing plan_verdict too_many uneven total any_of with_room
   corners_named P = P.answer
 
-  pub rings_named : Prepared (one Polygons) (lent 2 0 0 0 0 0) after r → r ≡ Refused (TableTooShort Table.Rings)
+  pub rings_named : Prepared (one Polygons) (lent 2 0 0 0 0 0) after r → r ≡ Err (TableTooShort Table.Rings)
   unfolding preparing plan_verdict too_many uneven total any_of with_room
   rings_named P = P.answer
 
-  pub polygons_named : Prepared (one Polygons) (lent 2 1 0 0 0 0) after r → r ≡ Refused (TableTooShort Table.Polygons)
+  pub polygons_named : Prepared (one Polygons) (lent 2 1 0 0 0 0) after r → r ≡ Err (TableTooShort Table.Polygons)
   unfolding preparing plan_verdict too_many uneven total any_of with_room
   polygons_named P = P.answer
 
   -- either table of the nodes
-  pub boxes_named : Prepared (one Polygons) (lent 2 1 1 0 1 0) after r → r ≡ Refused (TableTooShort Table.Nodes)
+  pub boxes_named : Prepared (one Polygons) (lent 2 1 1 0 1 0) after r → r ≡ Err (TableTooShort Table.Nodes)
   unfolding preparing plan_verdict too_many uneven total any_of plan_in_range all_in_range corners_of with_room with_nodes node_count nodes_within
   boxes_named P = P.answer
 
-  pub parts_named : Prepared (one Polygons) (lent 2 1 1 1 0 0) after r → r ≡ Refused (TableTooShort Table.Nodes)
+  pub parts_named : Prepared (one Polygons) (lent 2 1 1 1 0 0) after r → r ≡ Err (TableTooShort Table.Nodes)
   unfolding preparing plan_verdict too_many uneven total any_of plan_in_range all_in_range corners_of with_room with_nodes node_count nodes_within
   parts_named P = P.answer
 
@@ -178,7 +177,7 @@ unfolding preparing plan_verdict too_many uneven total any_of
 odd_named after r P = ap preparing_number P.answer
 
 -- ---- ends kept as lengths: rings of 1 and 2 corners end at 1 and 3, a polygon of 1 ring and one of 1 end at 1 and 2
-pub ends_kept : (after : Tables) (state : State) (nodes : ℕ) → Prepared (record { kind = Polygons; coordinates = pos 0 ∷ pos 0 ∷ pos 1 ∷ pos 0 ∷ pos 1 ∷ pos 1 ∷ []; lengths = 1 ∷ 2 ∷ []; counts = 1 ∷ 1 ∷ [] }) (lent 6 3 2 1 1 3) after (Ready state nodes)
+pub ends_kept : (after : Tables) (state : State) (nodes : ℕ) → Prepared (record { kind = Polygons; coordinates = pos 0 ∷ pos 0 ∷ pos 1 ∷ pos 0 ∷ pos 1 ∷ pos 1 ∷ []; lengths = 1 ∷ 2 ∷ []; counts = 1 ∷ 1 ∷ [] }) (lent 6 3 2 1 1 3) after (ready_with state nodes)
     → (after.rings ≡ 1 ∷ 3 ∷ 7 ∷ []) × (after.polygons ≡ 1 ∷ 2 ∷ [])
 unfolding ends_from
 ends_kept after state nodes P = (P.tables.plan_put.rings_are, P.tables.plan_put.polygons_are)

@@ -11,12 +11,12 @@ use Rattle.geom.specs.declared.Point.{Point}
 use Rattle.rules.specs.declared.Kind.{Kind}
 use Rattle.rules.specs.declared.Kind.TheVariants.{Polygons, Tree}
 use Rattle.rules.specs.declared.State.{State}
-use Rattle.rules.specs.declared.Verdict.TheVariants.{Accepted}
 use Rattle.rules.specs.Plans.{Plan, corner_count, rings_of, too_many, uneven, plan_verdict, plan_in_range, kind_reply, plan_reply, plan_half_reply}
 use Rattle.rules.specs.Tables.{ends_from, lengths_from, polygons_in, plan_of, PlanSound}
 use Rattle.rules.proofs.Tables.{ends_length, list_held, list_sound, tree_held, tree_sound}
 use Rattle.prepare.specs.Answers.{state_of}
 use Rattle.prepare.specs.Tables.{polygons_end, PlanPut}
+use Rattle.rules.specs.Answering.{Accepted}
 
 -- ---- what the tables keep of a plan
 

@@ -1,4 +1,5 @@
 -- What preparing answers, in numbers. Assumes nothing.
+use Rattle.std.specs.Prelude.{Err, Ok}
 use mathlib.Core.Path.{◌≡◌, refl, ap, ◌∙◌}
 use mathlib.Core.Bool.{Bool, true, false, cond, ◌||◌}
 use Prim.Native.Nat.{ℕ, ◌*◌}
@@ -6,15 +7,13 @@ use lib.Dec.{eqb, ltb}
 use Rattle.rules.specs.declared.Refusal.TheVariants.{Uneven, TooMany, TableTooShort}
 use Rattle.rules.specs.declared.State.{State}
 use Rattle.rules.specs.declared.Table.TheVariants.{Corners, Rings, Polygons, Nodes, Edges}
-use Rattle.rules.specs.declared.Verdict as Verdict
 use Rattle.rules.specs.Nodes.{node_count}
 use Rattle.rules.specs.Numbers.{refusal_detail}
 use Rattle.rules.specs.Plans.{Plan, too_many, uneven, plan_verdict}
-use Rattle.prepare.specs.declared.Preparing.{Preparing}
-use Rattle.prepare.specs.declared.Preparing.TheVariants.{Ready, Refused}
 use Rattle.prepare.specs.declared.Room.{Room}
-use Rattle.prepare.specs.Answers.{preparing_number, preparing_detail, state_of, with_nodes, with_room, judged, preparing, short_index, short_table, nodes_reported, number_due, detail_due}
+use Rattle.prepare.specs.Answers.{preparing_number, preparing_detail, state_of, with_nodes, with_room, judged, preparing, short_index, short_table, nodes_reported, number_due, detail_due, Preparing, ready_with}
 use Rattle.prepare.specs.Tables.{Tables, room_of, Left, Prepared}
+use Rattle.rules.specs.Answering.{Accepted}
 
 -- a table's number, and 0 where none is too short, decide the answer's number and detail
 abbrev pub number_by : ℕ → ℕ
@@ -25,8 +24,8 @@ detail_by nodes table = cond (eqb table 0) nodes table
 
 -- what a refusal names
 abbrev pub named : Preparing → ℕ
-named (Ready state nodes) = 0
-named (Refused refusal) = refusal_detail refusal
+named (Ok ready) = 0
+named (Err refusal) = refusal_detail refusal
 
 -- an answer with these
 pub record Told (r : Preparing) (nodes table : ℕ) : Type 0 where
@@ -39,7 +38,7 @@ module _ (state : State) (room : Room) where
   unfolding with_nodes short_index
   index_told = go (ltb room.boxes (node_count state.corners) || ltb room.parts (node_count state.corners)) (ltb room.edges state.corners)
     where
-      go : (a b : Bool) → Told (cond a (Refused (TableTooShort Nodes)) (cond b (Refused (TableTooShort Edges)) (Ready state (node_count state.corners)))) (node_count state.corners) (cond a 4 (cond b 5 0))
+      go : (a b : Bool) → Told (cond a (Err (TableTooShort Nodes)) (cond b (Err (TableTooShort Edges)) (ready_with state (node_count state.corners)))) (node_count state.corners) (cond a 4 (cond b 5 0))
       go true b = record { number = refl; detail = refl; names = refl }
       go false true = record { number = refl; detail = refl; names = refl }
       go false false = record { number = refl; detail = refl; names = refl }
@@ -48,7 +47,7 @@ module _ (state : State) (room : Room) where
   unfolding with_room short_table
   room_told = go (ltb room.corners (2 * state.corners)) (ltb room.rings state.rings) (ltb room.polygons state.polygons) state.out_of_range
     where
-      go : (a b c m : Bool) → Told (cond a (Refused (TableTooShort Corners)) (cond b (Refused (TableTooShort Rings)) (cond c (Refused (TableTooShort Polygons)) (cond m (Ready state 0) (with_nodes state room))))) (cond m 0 (node_count state.corners))
+      go : (a b c m : Bool) → Told (cond a (Err (TableTooShort Corners)) (cond b (Err (TableTooShort Rings)) (cond c (Err (TableTooShort Polygons)) (cond m (ready_with state 0) (with_nodes state room))))) (cond m 0 (node_count state.corners))
           (cond a 1 (cond b 2 (cond c 3 (cond m 0 (short_index state room)))))
       go true b c m = record { number = refl; detail = refl; names = refl }
       go false true c m = record { number = refl; detail = refl; names = refl }
@@ -61,7 +60,7 @@ module _ (plan : Plan) (room : Room) where
   unfolding preparing plan_verdict number_due
   number_due_lem = go (too_many plan) (uneven plan)
     where
-      go : (many odd : Bool) → preparing_number (judged (cond many (Verdict.TheVariants.Refused TooMany) (cond odd (Verdict.TheVariants.Refused Uneven) Verdict.TheVariants.Accepted)) (with_room (state_of plan) room)) ≡ cond many 4 (cond odd 3 (number_by (short_table (state_of plan) room)))
+      go : (many odd : Bool) → preparing_number (judged (cond many (Err TooMany) (cond odd (Err Uneven) Accepted)) (with_room (state_of plan) room)) ≡ cond many 4 (cond odd 3 (number_by (short_table (state_of plan) room)))
       go true odd = refl
       go false true = refl
       go false false = (room_told (state_of plan) room).number
@@ -70,7 +69,7 @@ module _ (plan : Plan) (room : Room) where
   unfolding preparing plan_verdict detail_due
   detail_due_lem = go (too_many plan) (uneven plan)
     where
-      go : (many odd : Bool) → preparing_detail (judged (cond many (Verdict.TheVariants.Refused TooMany) (cond odd (Verdict.TheVariants.Refused Uneven) Verdict.TheVariants.Accepted)) (with_room (state_of plan) room)) ≡ cond many 0 (cond odd 0 (detail_by (nodes_reported (state_of plan)) (short_table (state_of plan) room)))
+      go : (many odd : Bool) → preparing_detail (judged (cond many (Err TooMany) (cond odd (Err Uneven) Accepted)) (with_room (state_of plan) room)) ≡ cond many 0 (cond odd 0 (detail_by (nodes_reported (state_of plan)) (short_table (state_of plan) room)))
       go true odd = refl
       go false true = refl
       go false false = (room_told (state_of plan) room).detail

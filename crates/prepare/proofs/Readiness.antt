@@ -1,4 +1,5 @@
 -- What preparing leaves to look-ups and corrections, from its contract alone. Assumes nothing.
+use Rattle.std.specs.Prelude.{Err, Ok}
 use mathlib.Core.Path.{◌≡◌, refl, sym, ◌∙◌, ap, subst}
 use mathlib.Core.Bool.{Bool, true, false, true≢false, not, ◌||◌}
 use mathlib.Core.List.{List, [], ◌∷◌, ◌++◌}
@@ -12,7 +13,6 @@ use Rattle.geom.specs.Range.{in_range}
 use Rattle.rules.specs.declared.Kind.{Kind}
 use Rattle.rules.specs.declared.Kind.TheVariants.{Polygons, Tree}
 use Rattle.rules.specs.declared.State.{State}
-use Rattle.rules.specs.declared.Verdict.TheVariants.{Accepted}
 use Rattle.rules.specs.Lists.{any_of}
 use Rattle.rules.specs.Nodes.{node_count}
 use Rattle.rules.specs.Plans.{Plan, corners_of, corner_at, corner_count, rings_of, plan_verdict, all_in_range, plan_in_range, kind_reply, plan_reply, plan_half_reply}
@@ -21,12 +21,11 @@ use Rattle.rules.proofs.Tables.{ends_length}
 use Rattle.rules.proofs.Corners.{corners_length, near_at, corner_is}
 use Rattle.index.specs.Build.{Built}
 use Rattle.index.specs.Sound.{IndexSound}
-use Rattle.prepare.specs.declared.Preparing.{Preparing}
-use Rattle.prepare.specs.declared.Preparing.TheVariants.{Ready, Refused}
-use Rattle.prepare.specs.Answers.{state_of}
+use Rattle.prepare.specs.Answers.{state_of, Preparing, ready_with}
 use Rattle.prepare.specs.Tables.{Tables, room_of, polygons_end, Prepared}
 use Rattle.prepare.proofs.Holding.{corners_even, kept, kept_verdict, kept_range, kept_rings, kept_place, kept_reply, kept_half, put_held, put_sound}
 use Rattle.prepare.proofs.Rooms.{Given, given}
+use Rattle.rules.specs.Answering.{Accepted}
 
 -- ---- a plan is out of range by one of its corners
 
@@ -62,7 +61,7 @@ module _ (plan : Plan) where
 abbrev pub held_in : State → Tables → Plan
 held_in state t = plan_of state t.corners t.rings t.polygons
 
-module _ (plan : Plan) (before after : Tables) (state : State) (nodes : ℕ) (P : Prepared plan before after (Ready state nodes)) where
+module _ (plan : Plan) (before after : Tables) (state : State) (nodes : ℕ) (P : Prepared plan before after (ready_with state nodes)) where
   pub ready : Given plan (room_of before) state nodes
   ready = given plan (room_of before) state nodes P.answer
 
@@ -168,16 +167,16 @@ room_kept plan before after r P = go r P
     polygons Tree counts table table' h p = ap length p
 
     go : (q : Preparing) → Prepared plan before after q → room_of after ≡ room_of before
-    go (Refused refusal) Q = ap room_of Q.tables
-    go (Ready state nodes) Q =
-        let g = ready plan before after state nodes Q in
+    go (Err refusal) Q = ap room_of Q.tables
+    go (Ok prepared) Q =
+        let g = ready plan before after prepared.state prepared.nodes Q in
         let put = Q.tables.plan_put in
         let corners = starting plan.coordinates before.corners after.corners (length plan.coordinates) refl (omega (arith, corners_even plan g.accepted, g.roomy.corners_reach)) put.corners_are in
         let rings = starting (ends_from 0 plan.lengths) before.rings after.rings (length plan.lengths) (ends_length 0 plan.lengths) g.roomy.rings_reach put.rings_are in
         let ends = polygons plan.kind plan.counts before.polygons after.polygons g.roomy.polygons_reach put.polygons_are in
-        let index = lengths (plan_in_range plan) refl state nodes Q in
+        let index = lengths (plan_in_range plan) refl prepared.state prepared.nodes Q in
         λ i. record { corners = corners i; rings = rings i; polygons = ends i; boxes = index.0 i; parts = index.1 i; edges = index.2 i }
       where
-        lengths : (b : Bool) → plan_in_range plan ≡ b → (state : State) (nodes : ℕ) → Prepared plan before after (Ready state nodes) → (length after.boxes ≡ length before.boxes) × (length after.parts ≡ length before.parts) × (length after.edges ≡ length before.edges)
+        lengths : (b : Bool) → plan_in_range plan ≡ b → (state : State) (nodes : ℕ) → Prepared plan before after (ready_with state nodes) → (length after.boxes ≡ length before.boxes) × (length after.parts ≡ length before.parts) × (length after.edges ≡ length before.edges)
         lengths true e state nodes Q = let b = (index_built plan before after state nodes Q e).1 in (b.boxes_long, b.parts_long, b.edges_long)
         lengths false e state nodes Q = let u = index_unwritten plan before after state nodes Q e in (ap length u.0, ap length u.1, ap length u.2)

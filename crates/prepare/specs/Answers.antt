@@ -1,27 +1,33 @@
 -- What preparing a plan answers (document 01, items 5 and 6, refusals 4, 3 and 11).
-use Rattle.std.specs.Prelude.{not, cond, ◌||◌, ℕ, ◌*◌, eqb, ltb, length}
+use Rattle.std.specs.Prelude.{not, cond, ◌||◌, ℕ, ◌*◌, eqb, ltb, length, Result, Ok, Err}
+use Rattle.rules.specs.declared.Refusal.{Refusal}
 use Rattle.rules.specs.declared.Refusal.TheVariants.{TableTooShort}
 use Rattle.rules.specs.declared.State.{State}
 use Rattle.rules.specs.declared.Table.TheVariants.{Corners, Rings, Polygons, Nodes, Edges}
-use Rattle.rules.specs.declared.Verdict as Verdict
-use Rattle.rules.specs.declared.Verdict.{Verdict}
 use Rattle.rules.specs.Nodes.{node_count}
 use Rattle.rules.specs.Numbers.{refusal_number, refusal_detail}
 use Rattle.rules.specs.Plans.{Plan, corner_count, too_many, uneven, plan_verdict, plan_in_range}
 use Rattle.rules.specs.Tables.{polygons_in}
-use Rattle.prepare.specs.declared.Preparing.{Preparing}
-use Rattle.prepare.specs.declared.Preparing.TheVariants.{Ready, Refused}
+use Rattle.prepare.specs.declared.Ready.{Ready}
 use Rattle.prepare.specs.declared.Room.{Room}
+use Rattle.rules.specs.Answering.{Verdict}
+
+-- ready, or refused
+abbrev pub Preparing : Type 0
+Preparing = Result Ready Refusal
+
+abbrev pub ready_with : State → ℕ → Preparing
+ready_with state nodes = Ok (record { state = state; nodes = nodes })
 
 -- 0 where the plan was prepared, or the refusal's number
 abbrev pub preparing_number : Preparing → ℕ
-preparing_number (Ready state nodes) = 0
-preparing_number (Refused refusal) = refusal_number refusal
+preparing_number (Ok ready) = 0
+preparing_number (Err refusal) = refusal_number refusal
 
 -- the number of nodes reported where the plan was prepared, 11's table, and 0 with any other refusal
 abbrev pub preparing_detail : Preparing → ℕ
-preparing_detail (Ready state nodes) = nodes
-preparing_detail (Refused refusal) = refusal_detail refusal
+preparing_detail (Ok ready) = ready.nodes
+preparing_detail (Err refusal) = refusal_detail refusal
 
 -- the state of a plan just prepared. Item 6: it is marked where a corner is out of range. A tree has no polygons; nothing is to undo
 abbrev pub state_of : Plan → State
@@ -38,22 +44,22 @@ state_of plan =
 -- 11: nodes, N(n) rows of boxes and of parts, then edges, n of them; item 5: N(n) is reported
 unfoldable pub with_nodes : State → Room → Preparing
 with_nodes state room =
-    cond (ltb room.boxes (node_count state.corners) || ltb room.parts (node_count state.corners)) (Refused (TableTooShort Nodes))
-    (cond (ltb room.edges state.corners) (Refused (TableTooShort Edges)) (Ready state (node_count state.corners)))
+    cond (ltb room.boxes (node_count state.corners) || ltb room.parts (node_count state.corners)) (Err (TableTooShort Nodes))
+    (cond (ltb room.edges state.corners) (Err (TableTooShort Edges)) (ready_with state (node_count state.corners)))
 
 -- 11: the first table that is too short, of corners (two numbers a corner), rings, polygons (none for a tree), nodes, edges. A marked
 -- plan needs no nodes and no edges, and 0 nodes are reported
 unfoldable pub with_room : State → Room → Preparing
 with_room state room =
-    cond (ltb room.corners (2 * state.corners)) (Refused (TableTooShort Corners))
-    (cond (ltb room.rings state.rings) (Refused (TableTooShort Rings))
-    (cond (ltb room.polygons state.polygons) (Refused (TableTooShort Polygons))
-    (cond state.out_of_range (Ready state 0) (with_nodes state room))))
+    cond (ltb room.corners (2 * state.corners)) (Err (TableTooShort Corners))
+    (cond (ltb room.rings state.rings) (Err (TableTooShort Rings))
+    (cond (ltb room.polygons state.polygons) (Err (TableTooShort Polygons))
+    (cond state.out_of_range (ready_with state 0) (with_nodes state room))))
 
 -- a plan that is refused gets that refusal
 abbrev pub judged : Verdict → Preparing → Preparing
-judged Verdict.TheVariants.Accepted other = other
-judged (Verdict.TheVariants.Refused refusal) other = Refused refusal
+judged (Ok _) other = other
+judged (Err refusal) other = Err refusal
 
 -- "plan 4, 3, 11"
 unfoldable pub preparing : Plan → Room → Preparing

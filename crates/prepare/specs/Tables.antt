@@ -1,5 +1,5 @@
 -- What the lent tables hold after preparing (document 01, items 5, 6 and 9).
-use Rattle.std.specs.Prelude.{◌≡◌, true, false, List, ◌++◌, ℕ, ◌≤◌, ℤ, length, drop}
+use Rattle.std.specs.Prelude.{◌≡◌, true, false, List, ◌++◌, ℕ, ◌≤◌, ℤ, length, drop, Ok, Err}
 use Rattle.rules.specs.declared.Kind.{Kind}
 use Rattle.rules.specs.declared.Kind.TheVariants.{Polygons, Tree}
 use Rattle.rules.specs.declared.State.{State}
@@ -9,10 +9,8 @@ use Rattle.rules.specs.Plans.{Plan}
 use Rattle.rules.specs.Tables.{ends_from}
 use Rattle.boxes.specs.Rings.{RingEnds, CornersNear}
 use Rattle.index.specs.Build.{Built}
-use Rattle.prepare.specs.declared.Preparing.{Preparing}
-use Rattle.prepare.specs.declared.Preparing.TheVariants.{Ready, Refused}
 use Rattle.prepare.specs.declared.Room.{Room}
-use Rattle.prepare.specs.Answers.{preparing_number, preparing_detail, state_of, preparing, number_due, detail_due}
+use Rattle.prepare.specs.Answers.{preparing_number, preparing_detail, state_of, preparing, number_due, detail_due, Preparing}
 
 -- the lent tables of a prepared plan
 pub record Tables : Type 0 where
@@ -67,8 +65,8 @@ pub record Filled (plan : Plan) (before after : Tables) : Type 0 where
 
 -- a refusal changes nothing lent
 abbrev pub Left : Plan → Tables → Tables → Preparing → Type 0
-Left plan before after (Ready state nodes) = Filled plan before after
-Left plan before after (Refused refusal) = after ≡ before
+Left plan before after (Ok ready) = Filled plan before after
+Left plan before after (Err refusal) = after ≡ before
 
 -- answer and tables of `prepare`
 pub record Prepared (plan : Plan) (before after : Tables) (r : Preparing) : Type 0 where

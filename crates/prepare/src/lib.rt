@@ -10,13 +10,13 @@ use refusals::answer;
 use rules::{Kind, Refusal, State};
 use tables::{put_index, put_plan};
 
-/// What preparing answers.
+/// A plan just prepared.
 #[derive(Clone, Copy)]
-pub enum Preparing {
-    /// The tables hold the plan. The state goes with them; the number is that of the nodes of its index, 0 where the plan is out of range.
-    Ready(State, usize),
-    /// 4, 3, or 11 with its table.
-    Refused(Refusal),
+pub struct Ready {
+    /// The state that goes with the tables.
+    pub state: State,
+    /// How many nodes its index has, 0 where the plan is out of range.
+    pub nodes: usize,
 }
 
 /// How many entries each lent table has: numbers of corners, rings, polygons and edges, rows of boxes and parts.
@@ -50,7 +50,7 @@ pub fn prepare(
     boxes: &mut [[i64; 4]],
     parts: &mut [[usize; 3]],
     edges: &mut [usize],
-) -> Preparing
+) -> Result<Ready, Refusal>
     ensures { Prepared (record { kind = kind; coordinates = coordinates.now; lengths = lengths.now; counts = counts.now }) (record { corners = corners.old; rings = rings.old; polygons = polygons.old; boxes = boxes.old; parts = parts.old; edges = edges.old }) (record { corners = corners.new; rings = rings.new; polygons = polygons.new; boxes = boxes.new; parts = parts.new; edges = edges.new }) result }
 {
     let room = Room {
@@ -61,12 +61,8 @@ pub fn prepare(
         parts: parts.len(),
         edges: edges.len(),
     };
-    match answer(kind, coordinates, lengths, counts, room) {
-        Preparing::Ready(state, nodes) => {
-            put_plan(kind, coordinates, lengths, counts, corners, rings, polygons);
-            put_index(state, corners, rings, boxes, parts, edges);
-            Preparing::Ready(state, nodes)
-        }
-        Preparing::Refused(refusal) => Preparing::Refused(refusal),
-    }
+    let ready = answer(kind, coordinates, lengths, counts, room)?;
+    put_plan(kind, coordinates, lengths, counts, corners, rings, polygons);
+    put_index(ready.state, corners, rings, boxes, parts, edges);
+    Ok(ready)
 }

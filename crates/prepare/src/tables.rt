@@ -3,18 +3,14 @@ ghost use Rattle.std.specs.Prelude.{◌≡◌, ◌≤◌, length, drop, ◌++◌
 ghost use Rattle.prepare.specs.Tables.{ends_in, polygons_end, Fits, PolygonsFit, PlanFits, PlanPut, Buildable, Indexed};
 
 use index::build::build;
-use rules::{Kind, State};
+use rules::{Kind, State, is_list};
 
 // Puts the coordinates at the start of the corner table.
 fn put_corners(coordinates: &[i64], corners: &mut [i64])
     requires { length coordinates.now ≤ length corners.old }
     ensures { corners.new ≡ coordinates.now ++ drop (length coordinates.now) corners.old }
 {
-    let mut i: usize = 0;
-    while i < coordinates.len() {
-        corners[i] = coordinates[i];
-        i += 1;
-    }
+    corners[..coordinates.len()].copy_from_slice(coordinates);
 }
 
 // Puts the sums so far of a list of lengths at the start of a table.
@@ -22,12 +18,10 @@ fn put_ends(lengths: &[usize], table: &mut [usize])
     requires { Fits lengths.now table.old }
     ensures { table.new ≡ ends_in lengths.now table.old }
 {
-    let mut end: usize = 0;
-    let mut i: usize = 0;
-    while i < lengths.len() {
-        end += lengths[i];
+    let mut end = 0;
+    for (i, &length) in lengths.iter().enumerate() {
+        end += length;
         table[i] = end;
-        i += 1;
     }
 }
 
@@ -36,9 +30,8 @@ fn put_polygons(kind: Kind, counts: &[usize], polygons: &mut [usize])
     requires { PolygonsFit kind counts.now polygons.old }
     ensures { polygons.new ≡ polygons_end kind counts.now polygons.old }
 {
-    match kind {
-        Kind::Polygons => put_ends(counts, polygons),
-        Kind::Tree => {}
+    if is_list(kind) {
+        put_ends(counts, polygons);
     }
 }
 

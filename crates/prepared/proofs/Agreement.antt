@@ -8,13 +8,13 @@ use lib.IntN.{ℤ}
 use Rattle.geom.specs.declared.Point.{Point}
 use Rattle.geom.specs.Range.{in_range, in_doubled_range}
 use Rattle.rules.specs.declared.Location.{Location}
-use Rattle.rules.specs.declared.Reply.{Reply}
 use Rattle.rules.specs.declared.State.{State}
 use Rattle.rules.specs.Plans.{plan_reply, plan_half_reply}
 use Rattle.rules.specs.Tables.{plan_of}
 use Rattle.gather.specs.Regions.{LookSound}
 use Rattle.query.specs.Calls.{LookedUp}
 use Rattle.prepared.specs.Calls.{Looked}
+use Rattle.rules.specs.Answering.{Reply}
 
 -- on either grid, by `ranged` and `location`: `locate`, `locate_along` with any ray and `locate_by_rings` (in_range p and plan_reply), or
 -- `locate_doubled`, `locate_doubled_along` and `locate_doubled_by_rings` (in_doubled_range p and plan_half_reply). They agree for a point out

@@ -1,4 +1,5 @@
 -- The first point of a list that is not outside: what "none" and a place mean, and the loop that looks for it. Assumes nothing.
+use Rattle.std.specs.Prelude.{Err, Ok}
 use mathlib.Core.Path.{◌≡◌, refl, sym, ◌∙◌, ap, subst}
 use mathlib.Core.Bool.{Bool, true, false, cond}
 use mathlib.Core.Logic.{inl, inr}
@@ -18,45 +19,38 @@ use Rattle.rules.specs.declared.Location.{Location}
 use Rattle.rules.specs.declared.Location.TheVariants.{Outside, Inside, OnBoundary}
 use Rattle.rules.specs.declared.Refusal.{Refusal}
 use Rattle.rules.specs.declared.Refusal.TheVariants.{Uneven, TooMany, Unsound}
-use Rattle.rules.specs.declared.Reply.{Reply}
-use Rattle.rules.specs.declared.Reply as Reply
 use Rattle.rules.specs.declared.State.{State}
-use Rattle.rules.specs.declared.Verdict.{Verdict}
-use Rattle.rules.specs.declared.Verdict.TheVariants.{Accepted}
-use Rattle.rules.specs.declared.Verdict as Verdict
 use Rattle.rules.specs.Lists.{is_odd}
 use Rattle.rules.specs.Numbers.{refusal_number, verdict_number}
 use Rattle.rules.specs.Plans.{corners_of, corner_at, plan_reply}
 use Rattle.rules.specs.Tables.{plan_of}
 use Rattle.rules.proofs.Corners.{corners_cons, corners_length}
 use Rattle.rings.specs.Places.{is_outside}
-use Rattle.prepared.specs.declared.first.First.{First}
-use Rattle.prepared.specs.declared.first.First.TheVariants.{At, AllOutside, Refused}
-use Rattle.prepared.specs.declared.first.First as First
 use Rattle.gather.specs.Regions.{Enough, LookSound}
 use Rattle.query.proofs.LookUps.{far}
 use Rattle.outlines.proofs.Steps.{at_refused}
 use Rattle.prepared.specs.Calls.{Looked}
-use Rattle.prepared.specs.Firsts.{points_verdict, PointsJudged, first_from, first_of, FirstSays}
-use Rattle.prepared.proofs.Lookings.{clash}
+use Rattle.prepared.specs.Firsts.{points_verdict, PointsJudged, first_from, first_of, FirstSays, First, found_at, all_outside}
+use Rattle.prepared.proofs.Lookings.{clash, only_unsound}
+use Rattle.rules.specs.Answering.{Reply, Verdict, Accepted}
 
 -- ---- the answers are apart
 
 is_at : First → Bool
-is_at (At k) = true
-is_at AllOutside = false
-is_at (Refused refusal) = false
+is_at (found_at k) = true
+is_at all_outside = false
+is_at (Err refusal) = false
 
-pub at_none : (k : ℕ) → At k ≡ AllOutside → ⊥
+pub at_none : (k : ℕ) → found_at k ≡ all_outside → ⊥
 unfolding is_at
 at_none k e = subst T (ap is_at e) tt
 
 place_of : First → ℕ
-place_of (At k) = k
-place_of AllOutside = 0
-place_of (Refused refusal) = 0
+place_of (found_at k) = k
+place_of all_outside = 0
+place_of (Err refusal) = 0
 
-pub same_place : (j k : ℕ) → At j ≡ At k → j ≡ k
+pub same_place : (j k : ℕ) → found_at j ≡ found_at k → j ≡ k
 unfolding place_of
 same_place j k e = ap place_of e
 
@@ -68,25 +62,25 @@ only_outside OnBoundary e = absurd (clash e refl)
 -- ---- both directions
 
 -- "none" of a list is none of the rest too
-none_rest : (reply : Point → Location) (k : ℕ) (p : Point) (points : List Point) → first_from reply k (p ∷ points) ≡ AllOutside → (is_outside (reply p) ≡ true) × (first_from reply (suc k) points ≡ AllOutside)
+none_rest : (reply : Point → Location) (k : ℕ) (p : Point) (points : List Point) → first_from reply k (p ∷ points) ≡ all_outside → (is_outside (reply p) ≡ true) × (first_from reply (suc k) points ≡ all_outside)
 unfolding first_from
 none_rest reply k p points e = go (is_outside (reply p)) refl
   where
-    go : (b : Bool) → is_outside (reply p) ≡ b → (is_outside (reply p) ≡ true) × (first_from reply (suc k) points ≡ AllOutside)
-    go true o = (o, sym (λ i. cond (o i) (first_from reply (suc k) points) (At k)) ∙ e)
-    go false o = absurd (at_none k (sym (λ i. cond (o i) (first_from reply (suc k) points) (At k)) ∙ e))
+    go : (b : Bool) → is_outside (reply p) ≡ b → (is_outside (reply p) ≡ true) × (first_from reply (suc k) points ≡ all_outside)
+    go true o = (o, sym (λ i. cond (o i) (first_from reply (suc k) points) (found_at k)) ∙ e)
+    go false o = absurd (at_none k (sym (λ i. cond (o i) (first_from reply (suc k) points) (found_at k)) ∙ e))
 
 -- "none" means that every listed point is outside ..
-pub none_all : (reply : Point → Location) (k : ℕ) (points : List Point) → first_from reply k points ≡ AllOutside → (j : ℕ) → j < length points → (d : Point) → reply (get_or points j d) ≡ Outside
+pub none_all : (reply : Point → Location) (k : ℕ) (points : List Point) → first_from reply k points ≡ all_outside → (j : ℕ) → j < length points → (d : Point) → reply (get_or points j d) ≡ Outside
 none_all reply k [] e j h d = absurd (omega arith)
 none_all reply k (p ∷ points) e zero h d = only_outside (reply p) (none_rest reply k p points e).0
 none_all reply k (p ∷ points) e (suc j) h d = none_all reply (suc k) points (none_rest reply k p points e).1 j (omega arith) d
 
 -- .. and where every point is outside there is none
-pub all_none : (reply : Point → Location) (k : ℕ) (points : List Point) (d : Point) → ((j : ℕ) → j < length points → reply (get_or points j d) ≡ Outside) → first_from reply k points ≡ AllOutside
+pub all_none : (reply : Point → Location) (k : ℕ) (points : List Point) (d : Point) → ((j : ℕ) → j < length points → reply (get_or points j d) ≡ Outside) → first_from reply k points ≡ all_outside
 unfolding first_from
 all_none reply k [] d h = refl
-all_none reply k (p ∷ points) d h = (λ i. cond (is_outside (h 0 (omega arith) i)) (first_from reply (suc k) points) (At k)) ∙ all_none reply (suc k) points d (λ j g. h (suc j) (omega arith))
+all_none reply k (p ∷ points) d h = (λ i. cond (is_outside (h 0 (omega arith) i)) (first_from reply (suc k) points) (found_at k)) ∙ all_none reply (suc k) points d (λ j g. h (suc j) (omega arith))
 
 -- a place is one of the list, its point is not outside, and every point before it is
 pub record Earliest (reply : Point → Location) (points : List Point) (j : ℕ) : Type 0 where
@@ -94,7 +88,7 @@ pub record Earliest (reply : Point → Location) (points : List Point) (j : ℕ)
   pub there : (d : Point) → is_outside (reply (get_or points j d)) ≡ false
   pub before : (i : ℕ) → i < j → (d : Point) → reply (get_or points i d) ≡ Outside
 
-pub place_earliest : (reply : Point → Location) (k : ℕ) (points : List Point) (m : ℕ) → first_from reply k points ≡ At m → (j : ℕ) × (m ≡ k + j) × Earliest reply points j
+pub place_earliest : (reply : Point → Location) (k : ℕ) (points : List Point) (m : ℕ) → first_from reply k points ≡ found_at m → (j : ℕ) × (m ≡ k + j) × Earliest reply points j
 unfolding first_from
 place_earliest reply k [] m e = absurd (at_none m (sym e))
 place_earliest reply k (p ∷ points) m e = go (is_outside (reply p)) refl (place_earliest reply (suc k) points m)
@@ -103,12 +97,12 @@ place_earliest reply k (p ∷ points) m e = go (is_outside (reply p)) refl (plac
     before o j w zero h d = only_outside (reply p) o
     before o j w (suc i) h d = w.before i (omega arith) d
 
-    go : (b : Bool) → is_outside (reply p) ≡ b → (first_from reply (suc k) points ≡ At m → (j : ℕ) × (m ≡ suc k + j) × Earliest reply points j) → (j : ℕ) × (m ≡ k + j) × Earliest reply (p ∷ points) j
+    go : (b : Bool) → is_outside (reply p) ≡ b → (first_from reply (suc k) points ≡ found_at m → (j : ℕ) × (m ≡ suc k + j) × Earliest reply points j) → (j : ℕ) × (m ≡ k + j) × Earliest reply (p ∷ points) j
     go false o rest =
-        let is = same_place k m (sym (λ i. cond (o i) (first_from reply (suc k) points) (At k)) ∙ e) in
+        let is = same_place k m (sym (λ i. cond (o i) (first_from reply (suc k) points) (found_at k)) ∙ e) in
         (0, omega arith, record { listed = omega arith; there = λ d. o; before = λ i h d. absurd (omega arith) })
     go true o rest =
-        let w = rest (sym (λ i. cond (o i) (first_from reply (suc k) points) (At k)) ∙ e) in
+        let w = rest (sym (λ i. cond (o i) (first_from reply (suc k) points) (found_at k)) ∙ e) in
         (suc w.0, (let is = w.1 in omega arith), record { listed = (let h = w.2.listed in omega arith); there = w.2.there; before = before o w.0 w.2 })
 
 -- ---- the loop: the first k points are outside
@@ -127,19 +121,19 @@ module _ (reply : Point → Location) (points : List ℤ) (k : ℕ) (h : 2 * k +
 
   pub pass : reply (corner_at points k) ≡ Outside → Passed reply points (k + 1)
   unfolding first_from
-  pass o = here ∙ (λ i. cond (is_outside (o i)) (first_from reply (suc k) (drop (k + 1) (corners_of points))) (At k)) ∙ ap (λ m. first_from reply m (drop (k + 1) (corners_of points))) (sym (add-one k))
+  pass o = here ∙ (λ i. cond (is_outside (o i)) (first_from reply (suc k) (drop (k + 1) (corners_of points))) (found_at k)) ∙ ap (λ m. first_from reply m (drop (k + 1) (corners_of points))) (sym (add-one k))
 
-  pub stop : (l : Location) → reply (corner_at points k) ≡ l → is_outside l ≡ false → At k ≡ first_of reply (corners_of points)
+  pub stop : (l : Location) → reply (corner_at points k) ≡ l → is_outside l ≡ false → found_at k ≡ first_of reply (corners_of points)
   unfolding first_from
-  stop l e o = sym (here ∙ (λ i. cond ((ap is_outside e ∙ o) i) (first_from reply (suc k) (drop (k + 1) (corners_of points))) (At k)))
+  stop l e o = sym (here ∙ (λ i. cond ((ap is_outside e ∙ o) i) (first_from reply (suc k) (drop (k + 1) (corners_of points))) (found_at k)))
 
 -- ---- refusals 4 and 3 of the list
 
-pub verdict_many : (points : List ℤ) → 65536 < length points / 2 → Verdict.TheVariants.Refused TooMany ≡ points_verdict points
+pub verdict_many : (points : List ℤ) → 65536 < length points / 2 → Err TooMany ≡ points_verdict points
 unfolding points_verdict
 verdict_many points h = rw (lt-ltb 65536 (length points / 2) h) refl
 
-pub verdict_uneven : (points : List ℤ) → length points / 2 ≤ 65536 → length points % 2 ≡ 1 → Verdict.TheVariants.Refused Uneven ≡ points_verdict points
+pub verdict_uneven : (points : List ℤ) → length points / 2 ≤ 65536 → length points % 2 ≡ 1 → Err Uneven ≡ points_verdict points
 unfolding points_verdict
 verdict_uneven points h e = rw (le-ltb 65536 (length points / 2) h, eq-eqb (length points % 2) 1 e) refl
 
@@ -151,16 +145,16 @@ pub points_judged : (points : List ℤ) (r : Verdict) → r ≡ points_verdict p
 unfolding points_verdict
 points_judged points r e = record { verdict = e; number = ap verdict_number e ∙ go (ltb 65536 (length points / 2)) (is_odd (length points)) }
   where
-    go : (many odd : Bool) → verdict_number (cond many (Verdict.TheVariants.Refused TooMany) (cond odd (Verdict.TheVariants.Refused Uneven) Accepted)) ≡ cond many 4 (cond odd 3 0)
+    go : (many odd : Bool) → verdict_number (cond many (Err TooMany) (cond odd (Err Uneven) Accepted)) ≡ cond many 4 (cond odd 3 0)
     go true odd = refl
     go false true = refl
     go false false = refl
 
 is_accepted : Verdict → Bool
 is_accepted Accepted = true
-is_accepted (Verdict.TheVariants.Refused refusal) = false
+is_accepted (Err refusal) = false
 
-accepted_refused : (refusal : Refusal) → Accepted ≡ Verdict.TheVariants.Refused refusal → ⊥
+accepted_refused : (refusal : Refusal) → Accepted ≡ Err refusal → ⊥
 unfolding is_accepted
 accepted_refused refusal e = subst T (ap is_accepted e) tt
 
@@ -176,55 +170,55 @@ accepted_number : (points : List ℤ) → points_verdict points ≡ Accepted →
 unfolding points_verdict
 accepted_number points v x = go (ltb 65536 (length points / 2)) (is_odd (length points)) v
   where
-    go : (many odd : Bool) → cond many (Verdict.TheVariants.Refused TooMany) (cond odd (Verdict.TheVariants.Refused Uneven) Accepted) ≡ Accepted → cond many 4 (cond odd 3 x) ≡ x
+    go : (many odd : Bool) → cond many (Err TooMany) (cond odd (Err Uneven) Accepted) ≡ Accepted → cond many 4 (cond odd 3 x) ≡ x
     go true odd e = absurd (accepted_refused TooMany (sym e))
     go false true e = absurd (accepted_refused Uneven (sym e))
     go false false e = refl
 
-refused_number : (points : List ℤ) (refusal : Refusal) → points_verdict points ≡ Verdict.TheVariants.Refused refusal → (x : ℕ) → refusal_number refusal ≡ cond (ltb 65536 (length points / 2)) 4 (cond (is_odd (length points)) 3 x)
+refused_number : (points : List ℤ) (refusal : Refusal) → points_verdict points ≡ Err refusal → (x : ℕ) → refusal_number refusal ≡ cond (ltb 65536 (length points / 2)) 4 (cond (is_odd (length points)) 3 x)
 unfolding points_verdict
 refused_number points refusal v x = go (ltb 65536 (length points / 2)) (is_odd (length points)) v
   where
-    go : (many odd : Bool) → cond many (Verdict.TheVariants.Refused TooMany) (cond odd (Verdict.TheVariants.Refused Uneven) Accepted) ≡ Verdict.TheVariants.Refused refusal → refusal_number refusal ≡ cond many 4 (cond odd 3 x)
+    go : (many odd : Bool) → cond many (Err TooMany) (cond odd (Err Uneven) Accepted) ≡ Err refusal → refusal_number refusal ≡ cond many 4 (cond odd 3 x)
     go true odd e = sym (ap verdict_number e)
     go false true e = sym (ap verdict_number e)
     go false false e = absurd (accepted_refused refusal e)
 
 refusal_in : First → Refusal
-refusal_in (At k) = Unsound
-refusal_in AllOutside = Unsound
-refusal_in (Refused refusal) = refusal
+refusal_in (found_at k) = Unsound
+refusal_in all_outside = Unsound
+refusal_in (Err refusal) = refusal
 
-same_refusal : (f g : Refusal) → First.TheVariants.Refused f ≡ First.TheVariants.Refused g → f ≡ g
+same_refusal : (f g : Refusal) → ◌≡◌ {A = First} (Err f) (Err g) → f ≡ g
 unfolding refusal_in
 same_refusal f g e = ap refusal_in e
 
 is_refused : First → Bool
-is_refused (At k) = false
-is_refused AllOutside = false
-is_refused (Refused refusal) = true
+is_refused (found_at k) = false
+is_refused all_outside = false
+is_refused (Err refusal) = true
 
-pub at_not : (k : ℕ) (f : Refusal) → At k ≡ Refused f → ⊥
+pub at_not : (k : ℕ) (f : Refusal) → found_at k ≡ Err f → ⊥
 unfolding is_refused
 at_not k f e = subst T (sym (ap is_refused e)) tt
 
-pub none_not : (f : Refusal) → AllOutside ≡ Refused f → ⊥
+pub none_not : (f : Refusal) → all_outside ≡ Err f → ⊥
 unfolding is_refused
 none_not f e = subst T (sym (ap is_refused e)) tt
 
 unfoldable pub place_in : Reply → Location
-place_in (Reply.TheVariants.At location) = location
-place_in (Reply.TheVariants.Refused refusal) = Outside
+place_in (Ok location) = location
+place_in (Err refusal) = Outside
 
 -- no list of replies is refused
-pub never_first : (reply : Point → Location) (k : ℕ) (points : List Point) (f : Refusal) → first_from reply k points ≡ Refused f → ⊥
+pub never_first : (reply : Point → Location) (k : ℕ) (points : List Point) (f : Refusal) → first_from reply k points ≡ Err f → ⊥
 unfolding first_from
 never_first reply k [] f e = none_not f e
 never_first reply k (p ∷ points) f e = go (is_outside (reply p)) refl (never_first reply (suc k) points f)
   where
-    go : (b : Bool) → is_outside (reply p) ≡ b → (first_from reply (suc k) points ≡ Refused f → ⊥) → ⊥
-    go true o rest = rest (sym (λ i. cond (o i) (first_from reply (suc k) points) (At k)) ∙ e)
-    go false o rest = at_not k f (sym (λ i. cond (o i) (first_from reply (suc k) points) (At k)) ∙ e)
+    go : (b : Bool) → is_outside (reply p) ≡ b → (first_from reply (suc k) points ≡ Err f → ⊥) → ⊥
+    go true o rest = rest (sym (λ i. cond (o i) (first_from reply (suc k) points) (found_at k)) ∙ e)
+    go false o rest = at_not k f (sym (λ i. cond (o i) (first_from reply (suc k) points) (found_at k)) ∙ e)
 
 -- ---- the loop over the list
 
@@ -244,7 +238,7 @@ module _ (state : State) (corners : List ℤ) (rings polygons : List ℕ) (boxes
   LookedAt p r = Looked state corners rings polygons boxes parts edges (in_range p) (plan_reply (plan_of state corners rings polygons) p) r
 
   -- what a reply that is a place says
-  placed : (p : Point) (l : Location) → LookedAt p (Reply.TheVariants.At l) → state.out_of_range ≡ false → LookSound state corners rings polygons boxes parts edges → plan_reply (plan_of state corners rings polygons) p ≡ l
+  placed : (p : Point) (l : Location) → LookedAt p (Ok l) → state.out_of_range ≡ false → LookSound state corners rings polygons boxes parts edges → plan_reply (plan_of state corners rings polygons) p ≡ l
   unfolding place_in
   placed p l looked m s = go (in_range p) refl
     where
@@ -252,12 +246,12 @@ module _ (state : State) (corners : List ℤ) (rings polygons : List ℕ) (boxes
       go true e = sym (ap place_in ((looked.looked m e).exact s))
       go false e = far (plan_of state corners rings polygons) p e ∙ sym (ap place_in (looked.early (inr e)))
 
-  marked_out : (p : Point) (l : Location) → LookedAt p (Reply.TheVariants.At l) → state.out_of_range ≡ true → l ≡ Outside
+  marked_out : (p : Point) (l : Location) → LookedAt p (Ok l) → state.out_of_range ≡ true → l ≡ Outside
   unfolding place_in
   marked_out p l looked m = ap place_in (looked.early (inl m))
 
   -- where a table is too short, a place is that of a point out of range
-  far_place : (p : Point) (l : Location) → LookedAt p (Reply.TheVariants.At l) → state.out_of_range ≡ false → TooShort → in_range p ≡ false
+  far_place : (p : Point) (l : Location) → LookedAt p (Ok l) → state.out_of_range ≡ false → TooShort → in_range p ≡ false
   far_place p l looked m t = go (in_range p) refl
     where
       go : (b : Bool) → in_range p ≡ b → in_range p ≡ false
@@ -265,7 +259,7 @@ module _ (state : State) (corners : List ℤ) (rings polygons : List ℕ) (boxes
       go false e = e
 
   -- a point that is not said to be outside is in range
-  near_point : (p : Point) (r : Reply) → LookedAt p r → (r ≡ Reply.TheVariants.At Outside → ⊥) → in_range p ≡ true
+  near_point : (p : Point) (r : Reply) → LookedAt p r → (r ≡ Ok Outside → ⊥) → in_range p ≡ true
   near_point p r looked not = go (in_range p) refl
     where
       go : (b : Bool) → in_range p ≡ b → in_range p ≡ true
@@ -276,14 +270,14 @@ module _ (state : State) (corners : List ℤ) (rings polygons : List ℕ) (boxes
   going_none v = record { within = omega arith; accepted = v; passed = λ m s. refl; unread = λ m t j h. absurd (omega arith) }
 
   module _ (k : ℕ) (going : Going k) where
-    not_judged : (refusal : Refusal) (r : First) → points_verdict points ≡ Verdict.TheVariants.Refused refusal → r ≡ Refused refusal
+    not_judged : (refusal : Refusal) (r : First) → points_verdict points ≡ Err refusal → r ≡ Err refusal
     not_judged refusal r e = absurd (accepted_refused refusal (sym going.accepted ∙ e))
 
     -- every point was outside
-    pub says_none : length points / 2 ≤ k → FirstSays state corners rings polygons boxes parts edges points AllOutside
+    pub says_none : length points / 2 ≤ k → FirstSays state corners rings polygons boxes parts edges points all_outside
     unfolding first_from
     says_none h = record {
-      judged = λ f e. not_judged f AllOutside e;
+      judged = λ f e. not_judged f all_outside e;
       alone = λ f e. absurd (none_not f e);
       number = sym (accepted_number points going.accepted 0);
       inside = λ j e. absurd (at_none j (sym e));
@@ -297,7 +291,7 @@ module _ (state : State) (corners : List ℤ) (rings polygons : List ℕ) (boxes
       place_inside : 2 * k + 1 < length points
       place_inside = omega arith
 
-      pub going_more : (p : Point) → p ≡ corner_at points k → (l : Location) → LookedAt p (Reply.TheVariants.At l) → is_outside l ≡ true → Going (k + 1)
+      pub going_more : (p : Point) → p ≡ corner_at points k → (l : Location) → LookedAt p (Ok l) → is_outside l ≡ true → Going (k + 1)
       going_more p is l looked o = record {
         within = omega arith;
         accepted = going.accepted;
@@ -310,15 +304,15 @@ module _ (state : State) (corners : List ℤ) (rings polygons : List ℕ) (boxes
           unread m t j g (no last) = let here : j ≡ k = omega arith in ap (λ (i : ℕ). in_range (corner_at points i)) here ∙ ap in_range (sym is) ∙ far_place p l looked m t
 
       -- the point at k is in range, and so not every point is out of range
-      not_beyond : (p : Point) → p ≡ corner_at points k → in_range p ≡ true → (r : First) → ((j : ℕ) → j < length points / 2 → in_range (corner_at points j) ≡ false) → r ≡ AllOutside
+      not_beyond : (p : Point) → p ≡ corner_at points k → in_range p ≡ true → (r : First) → ((j : ℕ) → j < length points / 2 → in_range (corner_at points j) ≡ false) → r ≡ all_outside
       not_beyond p is near r f = absurd (clash (sym (ap in_range is) ∙ near) (f k h))
 
-      pub says_at : (p : Point) → p ≡ corner_at points k → (l : Location) → LookedAt p (Reply.TheVariants.At l) → is_outside l ≡ false → FirstSays state corners rings polygons boxes parts edges points (At k)
+      pub says_at : (p : Point) → p ≡ corner_at points k → (l : Location) → LookedAt p (Ok l) → is_outside l ≡ false → FirstSays state corners rings polygons boxes parts edges points (found_at k)
       unfolding place_in
       says_at p is l looked o =
-          let near = near_point p (Reply.TheVariants.At l) looked (λ e. clash (ap (λ (r : Reply). is_outside (place_in r)) e) o) in
+          let near = near_point p (Ok l) looked (λ e. clash (ap (λ (r : Reply). is_outside (place_in r)) e) o) in
           record {
-            judged = λ f e. not_judged f (At k) e;
+            judged = λ f e. not_judged f (found_at k) e;
             alone = λ f e. absurd (at_not k f e);
             number = sym (accepted_number points going.accepted 0);
             inside = λ j e. (
@@ -326,31 +320,31 @@ module _ (state : State) (corners : List ℤ) (rings polygons : List ℕ) (boxes
               subst (λ (i : ℕ). in_range (corner_at points i) ≡ true) (same_place k j e) (sym (ap in_range is) ∙ near),
             );
             marked = λ v m. absurd (clash (ap is_outside (marked_out p l looked m)) o);
-            beyond = λ v f. not_beyond p is near (At k) f;
+            beyond = λ v f. not_beyond p is near (found_at k) f;
             short = λ v m j g n t. absurd (clash near (far_place p l looked m t));
             exact = λ v m s. stop (plan_reply (plan_of state corners rings polygons)) points k place_inside (going.passed m s) l (ap (plan_reply (plan_of state corners rings polygons)) (sym is) ∙ placed p l looked m s) o;
           }
 
-      pub says_unsound : (p : Point) → p ≡ corner_at points k → (refusal : Refusal) → LookedAt p (Reply.TheVariants.Refused refusal) → FirstSays state corners rings polygons boxes parts edges points (Refused Unsound)
-      says_unsound p is refusal looked = record {
-        judged = λ f e. not_judged f (Refused Unsound) e;
+      pub says_unsound : (p : Point) → p ≡ corner_at points k → (refusal : Refusal) → LookedAt p (Err refusal) → FirstSays state corners rings polygons boxes parts edges points (Err refusal)
+      says_unsound p is refusal looked = subst (λ f. FirstSays state corners rings polygons boxes parts edges points (Err f)) (sym (only_unsound _ _ _ _ _ _ _ _ _ _ looked refusal refl)) (record {
+        judged = λ f e. not_judged f (Err Unsound) e;
         alone = λ f e. inr (sym (same_refusal Unsound f e));
         number = sym (accepted_number points going.accepted 15);
         inside = λ j e. absurd (at_not j Unsound (sym e));
         marked = λ v m. absurd (at_refused Outside refusal (sym (looked.early (inl m))));
-        beyond = λ v f. not_beyond p is near (Refused Unsound) f;
+        beyond = λ v f. not_beyond p is near (Err Unsound) f;
         short = λ v m j g n t. refl;
         exact = λ v m s. absurd (at_refused (plan_reply (plan_of state corners rings polygons) p) refusal (sym ((looked.looked m near).exact s)));
-      }
+      })
         where
           near : in_range p ≡ true
-          near = near_point p (Reply.TheVariants.Refused refusal) looked (λ e. at_refused Outside refusal (sym e))
+          near = near_point p (Err refusal) looked (λ e. at_refused Outside refusal (sym e))
 
   -- a list that is refused
-  pub says_judged : (refusal : Refusal) → points_verdict points ≡ Verdict.TheVariants.Refused refusal → FirstSays state corners rings polygons boxes parts edges points (Refused refusal)
+  pub says_judged : (refusal : Refusal) → points_verdict points ≡ Err refusal → FirstSays state corners rings polygons boxes parts edges points (Err refusal)
   says_judged refusal e = record {
-    judged = λ f v. ap Refused (sym (same_verdict refusal f (sym e ∙ v)));
-    alone = λ f v. inl (e ∙ ap Verdict.TheVariants.Refused (same_refusal refusal f v));
+    judged = λ f v. ap (λ (g : Refusal). Err g) (sym (same_verdict refusal f (sym e ∙ v)));
+    alone = λ f v. inl (e ∙ ap (λ (g : Refusal). Err g) (same_refusal refusal f v));
     number = refused_number points refusal e 15;
     inside = λ j v. absurd (at_not j refusal (sym v));
     marked = λ v m. absurd (accepted_refused refusal (sym v ∙ e));
@@ -361,7 +355,7 @@ module _ (state : State) (corners : List ℤ) (rings polygons : List ℕ) (boxes
     where
       verdict_in : Verdict → Refusal
       verdict_in Accepted = Unsound
-      verdict_in (Verdict.TheVariants.Refused f) = f
+      verdict_in (Err f) = f
 
-      same_verdict : (f g : Refusal) → Verdict.TheVariants.Refused f ≡ Verdict.TheVariants.Refused g → g ≡ f
+      same_verdict : (f g : Refusal) → ◌≡◌ {A = Verdict} (Err f) (Err g) → g ≡ f
       same_verdict f g v = sym (ap verdict_in v)

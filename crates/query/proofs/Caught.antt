@@ -1,5 +1,6 @@
 -- Wrong engines that the contracts rule out, whatever their code is. An engine meets the contract of `locate` or `locate_doubled` if
 -- it answers every plan and point as that contract says. Assumes nothing.
+use Rattle.std.specs.Prelude.{Err, Ok}
 use mathlib.Core.Path.{◌≡◌, refl, sym, ◌∙◌, ap, subst}
 use mathlib.Core.Bool.{Bool, true, false}
 use mathlib.Core.List.{List, [], ◌∷◌}
@@ -15,18 +16,16 @@ use Rattle.rules.specs.declared.Location.{Location}
 use Rattle.rules.specs.declared.Location.TheVariants.{Outside, Inside, OnBoundary}
 use Rattle.rules.specs.declared.Refusal.{Refusal}
 use Rattle.rules.specs.declared.Refusal.TheVariants.{Uneven}
-use Rattle.rules.specs.declared.Reply.{Reply}
-use Rattle.rules.specs.declared.Reply.TheVariants.{At, Refused}
 use Rattle.rules.specs.declared.State.{State}
 use Rattle.rules.specs.Edges.{edges_from, edges_of, all_edges, edge_winding, winding, on_edge}
 use Rattle.rules.specs.Lists.{any_of, count_of, sum_of, total, parts_of}
 use Rattle.rules.specs.Plans.{Plan, corners_of, rings_of, polygons_of, too_many, uneven, plan_verdict, all_in_range, plan_in_range, plan_reply, plan_half_reply, answer}
 use Rattle.rules.specs.Replies.{ring_reply, holes_reply, polygon_reply, list_reply, doubled_edges, half_reply}
-use Rattle.rules.specs.declared.Verdict.TheVariants.{Accepted}
 use Rattle.rules.specs.Tables.{ends_from, plan_of, PlanSound}
 use Rattle.rules.proofs.Tables.{list_state, list_held, list_sound}
 use Rattle.query.specs.Calls.{LookedUp}
 use Rattle.outlines.proofs.Steps.{at_refused}
+use Rattle.rules.specs.Answering.{Reply, Accepted}
 
 abbrev pub Engine : Type 0
 Engine = Kind → List ℤ → List ℕ → List ℕ → Point → Reply
@@ -54,46 +53,46 @@ doubled_middle = record { x = pos 10; y = pos 10 }
 abbrev beside : Point
 beside = record { x = pos 11; y = pos 5 }
 
-middle_inside : answer (plan_verdict (plan Polygons square (8 ∷ []) (1 ∷ []))) (plan_reply (plan Polygons square (8 ∷ []) (1 ∷ [])) middle) ≡ At Inside
+middle_inside : answer (plan_verdict (plan Polygons square (8 ∷ []) (1 ∷ []))) (plan_reply (plan Polygons square (8 ∷ []) (1 ∷ [])) middle) ≡ Ok Inside
 unfolding orientation on_segment edges_from edges_of edge_winding winding on_edge any_of sum_of total parts_of corners_of rings_of polygons_of too_many uneven plan_verdict all_in_range plan_in_range plan_reply ring_reply holes_reply polygon_reply list_reply
 middle_inside = refl
 
-beside_outside : answer (plan_verdict (plan Polygons square (8 ∷ []) (1 ∷ []))) (plan_reply (plan Polygons square (8 ∷ []) (1 ∷ [])) beside) ≡ At Outside
+beside_outside : answer (plan_verdict (plan Polygons square (8 ∷ []) (1 ∷ []))) (plan_reply (plan Polygons square (8 ∷ []) (1 ∷ [])) beside) ≡ Ok Outside
 unfolding orientation on_segment edges_from edges_of edge_winding winding on_edge any_of sum_of total parts_of corners_of rings_of polygons_of too_many uneven plan_verdict all_in_range plan_in_range plan_reply ring_reply holes_reply polygon_reply list_reply
 beside_outside = refl
 
-torn_refused : (location : Location) → answer (plan_verdict (plan Polygons square (7 ∷ []) (1 ∷ []))) location ≡ Refused Uneven
+torn_refused : (location : Location) → answer (plan_verdict (plan Polygons square (7 ∷ []) (1 ∷ []))) location ≡ Err Uneven
 unfolding total too_many uneven plan_verdict
 torn_refused location = refl
 
-doubled_outside : answer (plan_verdict (plan Polygons square (8 ∷ []) (1 ∷ []))) (plan_half_reply (plan Polygons square (8 ∷ []) (1 ∷ [])) doubled_middle) ≡ At Outside
+doubled_outside : answer (plan_verdict (plan Polygons square (8 ∷ []) (1 ∷ []))) (plan_half_reply (plan Polygons square (8 ∷ []) (1 ∷ [])) doubled_middle) ≡ Ok Outside
 unfolding orientation on_segment edges_from edges_of all_edges edge_winding on_edge any_of count_of total parts_of corners_of rings_of too_many uneven plan_verdict all_in_range plan_in_range plan_half_reply doubled_edges half_reply
 doubled_outside = refl
 
 is_inside_reply : Reply → Bool
-is_inside_reply (At Outside) = false
-is_inside_reply (At Inside) = true
-is_inside_reply (At OnBoundary) = false
-is_inside_reply (Refused refusal) = false
+is_inside_reply (Ok Outside) = false
+is_inside_reply (Ok Inside) = true
+is_inside_reply (Ok OnBoundary) = false
+is_inside_reply (Err refusal) = false
 
-apart : At Inside ≡ At Outside → ⊥
+apart : ◌≡◌ {A = Reply} (Ok Inside) (Ok Outside) → ⊥
 unfolding is_inside_reply
 apart e = subst T (ap is_inside_reply e) tt
 
 -- ---- caught
-pub always_outside : (f : Engine) → Meets f → ((kind : Kind) (coordinates : List ℤ) (lengths counts : List ℕ) (p : Point) → f kind coordinates lengths counts p ≡ At Outside) → ⊥
+pub always_outside : (f : Engine) → Meets f → ((kind : Kind) (coordinates : List ℤ) (lengths counts : List ℕ) (p : Point) → f kind coordinates lengths counts p ≡ Ok Outside) → ⊥
 always_outside f meets wrong = apart (sym middle_inside ∙ sym (meets Polygons square (8 ∷ []) (1 ∷ []) middle) ∙ wrong Polygons square (8 ∷ []) (1 ∷ []) middle)
 
 pub one_reply_a_plan : (f : Engine) → Meets f → ((kind : Kind) (coordinates : List ℤ) (lengths counts : List ℕ) (p q : Point) → f kind coordinates lengths counts p ≡ f kind coordinates lengths counts q) → ⊥
 one_reply_a_plan f meets wrong =
     apart (sym middle_inside ∙ sym (meets Polygons square (8 ∷ []) (1 ∷ []) middle) ∙ wrong Polygons square (8 ∷ []) (1 ∷ []) middle beside ∙ meets Polygons square (8 ∷ []) (1 ∷ []) beside ∙ beside_outside)
 
-pub refusal_throughout : (f : Engine) → Meets f → ((kind : Kind) (coordinates : List ℤ) (lengths counts : List ℕ) (p : Point) → (refusal : Refusal) × (f kind coordinates lengths counts p ≡ Refused refusal)) → ⊥
+pub refusal_throughout : (f : Engine) → Meets f → ((kind : Kind) (coordinates : List ℤ) (lengths counts : List ℕ) (p : Point) → (refusal : Refusal) × (f kind coordinates lengths counts p ≡ Err refusal)) → ⊥
 refusal_throughout f meets wrong =
     let w = wrong Polygons square (8 ∷ []) (1 ∷ []) middle in
     at_refused Inside w.0 (sym middle_inside ∙ sym (meets Polygons square (8 ∷ []) (1 ∷ []) middle) ∙ w.1)
 
-pub nothing_refused : (f : Engine) → Meets f → ((kind : Kind) (coordinates : List ℤ) (lengths counts : List ℕ) (p : Point) → (location : Location) × (f kind coordinates lengths counts p ≡ At location)) → ⊥
+pub nothing_refused : (f : Engine) → Meets f → ((kind : Kind) (coordinates : List ℤ) (lengths counts : List ℕ) (p : Point) → (location : Location) × (f kind coordinates lengths counts p ≡ Ok location)) → ⊥
 nothing_refused f meets wrong =
     let w = wrong Polygons square (7 ∷ []) (1 ∷ []) middle in
     at_refused w.0 Uneven (sym w.1 ∙ meets Polygons square (7 ∷ []) (1 ∷ []) middle ∙ torn_refused _)
@@ -113,21 +112,21 @@ greater_first = pos 0 ∷ pos 0 ∷ pos 10 ∷ pos 0 ∷ pos 10 ∷ pos 10 ∷ p
 abbrev pub rim : Point
 rim = record { x = pos 4; y = pos 5 }
 
-lesser_decides : answer (plan_verdict (plan Polygons lesser_first (4 ∷ 4 ∷ 4 ∷ []) (3 ∷ []))) (plan_reply (plan Polygons lesser_first (4 ∷ 4 ∷ 4 ∷ []) (3 ∷ [])) rim) ≡ At OnBoundary
+lesser_decides : answer (plan_verdict (plan Polygons lesser_first (4 ∷ 4 ∷ 4 ∷ []) (3 ∷ []))) (plan_reply (plan Polygons lesser_first (4 ∷ 4 ∷ 4 ∷ []) (3 ∷ [])) rim) ≡ Ok OnBoundary
 unfolding orientation on_segment edges_from edges_of edge_winding winding on_edge any_of sum_of total parts_of corners_of rings_of polygons_of too_many uneven plan_verdict all_in_range plan_in_range plan_reply ring_reply holes_reply polygon_reply list_reply
 lesser_decides = refl
 
-greater_decides : answer (plan_verdict (plan Polygons greater_first (4 ∷ 4 ∷ 4 ∷ []) (3 ∷ []))) (plan_reply (plan Polygons greater_first (4 ∷ 4 ∷ 4 ∷ []) (3 ∷ [])) rim) ≡ At Outside
+greater_decides : answer (plan_verdict (plan Polygons greater_first (4 ∷ 4 ∷ 4 ∷ []) (3 ∷ []))) (plan_reply (plan Polygons greater_first (4 ∷ 4 ∷ 4 ∷ []) (3 ∷ [])) rim) ≡ Ok Outside
 unfolding orientation on_segment edges_from edges_of edge_winding winding on_edge any_of sum_of total parts_of corners_of rings_of polygons_of too_many uneven plan_verdict all_in_range plan_in_range plan_reply ring_reply holes_reply polygon_reply list_reply
 greater_decides = refl
 
 is_outside_reply : Reply → Bool
-is_outside_reply (At Outside) = true
-is_outside_reply (At Inside) = false
-is_outside_reply (At OnBoundary) = false
-is_outside_reply (Refused refusal) = false
+is_outside_reply (Ok Outside) = true
+is_outside_reply (Ok Inside) = false
+is_outside_reply (Ok OnBoundary) = false
+is_outside_reply (Err refusal) = false
 
-not_outside : At Outside ≡ At OnBoundary → ⊥
+not_outside : ◌≡◌ {A = Reply} (Ok Outside) (Ok OnBoundary) → ⊥
 unfolding is_outside_reply
 not_outside e = subst T (ap is_outside_reply e) tt
 
@@ -147,11 +146,11 @@ outer_ring = pos 0 ∷ pos 0 ∷ pos 10 ∷ pos 0 ∷ pos 10 ∷ pos 10 ∷ pos 
 abbrev pub with_hole : List ℤ
 with_hole = pos 0 ∷ pos 0 ∷ pos 10 ∷ pos 0 ∷ pos 10 ∷ pos 10 ∷ pos 0 ∷ pos 10 ∷ pos 4 ∷ pos 4 ∷ pos 6 ∷ pos 4 ∷ pos 6 ∷ pos 6 ∷ pos 4 ∷ pos 6 ∷ []
 
-outer_inside : answer (plan_verdict (plan Polygons outer_ring (4 ∷ []) (1 ∷ []))) (plan_half_reply (plan Polygons outer_ring (4 ∷ []) (1 ∷ [])) doubled_middle) ≡ At Inside
+outer_inside : answer (plan_verdict (plan Polygons outer_ring (4 ∷ []) (1 ∷ []))) (plan_half_reply (plan Polygons outer_ring (4 ∷ []) (1 ∷ [])) doubled_middle) ≡ Ok Inside
 unfolding orientation on_segment edges_from edges_of all_edges edge_winding on_edge any_of count_of total parts_of corners_of rings_of too_many uneven plan_verdict all_in_range plan_in_range plan_half_reply doubled_edges half_reply
 outer_inside = refl
 
-hole_outside : answer (plan_verdict (plan Polygons with_hole (4 ∷ 4 ∷ []) (2 ∷ []))) (plan_half_reply (plan Polygons with_hole (4 ∷ 4 ∷ []) (2 ∷ [])) doubled_middle) ≡ At Outside
+hole_outside : answer (plan_verdict (plan Polygons with_hole (4 ∷ 4 ∷ []) (2 ∷ []))) (plan_half_reply (plan Polygons with_hole (4 ∷ 4 ∷ []) (2 ∷ [])) doubled_middle) ≡ Ok Outside
 unfolding orientation on_segment edges_from edges_of all_edges edge_winding on_edge any_of count_of total parts_of corners_of rings_of too_many uneven plan_verdict all_in_range plan_in_range plan_half_reply doubled_edges half_reply
 hole_outside = refl
 
@@ -177,13 +176,13 @@ inside = refl
 
 pub tables_answer : (r : Reply)
     → LookedUp (list_state square_plan) square (ends_from 0 (8 ∷ [])) (ends_from 0 (1 ∷ [])) (in_range middle) (plan_reply (plan_of (list_state square_plan) square (ends_from 0 (8 ∷ [])) (ends_from 0 (1 ∷ []))) middle) r
-    → r ≡ At Inside
+    → r ≡ Ok Inside
 tables_answer r looked =
     looked.exact (list_sound square (8 ∷ []) (1 ∷ []) accepted near) refl
-    ∙ ap (λ held. At (plan_reply held middle)) (list_held square (8 ∷ []) (1 ∷ []) accepted)
-    ∙ ap At inside
+    ∙ ap (λ held. Ok (plan_reply held middle)) (list_held square (8 ∷ []) (1 ∷ []) accepted)
+    ∙ ap Ok inside
 
 -- ---- sound tables never get 15, and nothing else is ever refused
 pub sound_never_refused : (state : State) (corners : List ℤ) (rings polygons : List ℕ) (ranged : Bool) (location : Location) (r : Reply) (refusal : Refusal)
-    → LookedUp state corners rings polygons ranged location r → PlanSound state corners rings polygons → state.out_of_range ≡ false → r ≡ Refused refusal → ⊥
+    → LookedUp state corners rings polygons ranged location r → PlanSound state corners rings polygons → state.out_of_range ≡ false → r ≡ Err refusal → ⊥
 sound_never_refused state corners rings polygons ranged location r refusal looked sound in_range_lem e = at_refused location refusal (sym (looked.exact sound in_range_lem) ∙ e)

@@ -13,11 +13,13 @@ use Rattle.geom.specs.Range.{in_range, in_doubled_range}
 use Rattle.rules.specs.declared.Kind.{Kind}
 use Rattle.rules.specs.declared.Kind.TheVariants.{Polygons, Tree}
 use Rattle.rules.specs.declared.Location.TheVariants.{Outside, Inside, OnBoundary}
+use Rattle.rules.specs.declared.Spot.{Spot}
+use Rattle.rules.specs.declared.Spot.TheVariants.{OnGrid, Doubled}
 use Rattle.rules.specs.declared.State.{State}
-use Rattle.rules.specs.declared.Verdict.TheVariants.{Accepted}
 use Rattle.rules.specs.Edges.{all_edges, on_edge}
 use Rattle.rules.specs.Lists.{any_of, count_of, parts_of, total, is_odd}
 use Rattle.rules.specs.Plans.{Plan, corners_of, rings_of, polygons_of, plan_verdict, all_in_range, plan_in_range, kind_reply, plan_reply, plan_half_reply}
+use Rattle.rules.specs.Spots.{spot_in_range, near_reply, spot_reply}
 use Rattle.rules.specs.Replies.{crosses, doubled, doubled_edges, half_reply, list_reply, tree_reply}
 use Rattle.rules.specs.Tables.{ends_from, lengths_from, polygons_in, plan_of, PlanSound}
 use Rattle.rules.proofs.Corners.{near_first}
@@ -28,6 +30,7 @@ use Rattle.query.specs.Calls.{plan_by, Fitting}
 use Rattle.rings.specs.Half.{near_doubled}
 use Rattle.outlines.specs.Shapes.{half_near}
 use Rattle.outlines.specs.Rows.{lengths_by, Within, parts_from}
+use Rattle.rules.specs.Answering.{Accepted}
 
 -- ---- sums that come out let every entry fit
 pub fits_lengths : (limit start : ℕ) (table : List ℕ) → start + total table ≡ limit → Within Lengths limit start table
@@ -119,3 +122,7 @@ located plan p near ranged e f = λ i. cond (e i && f i) (kind_reply plan.kind p
 pub half_located : (plan : Plan) (p : Point) (near ranged : Bool) → plan_in_range plan ≡ near → in_doubled_range p ≡ ranged → plan_half_reply plan p ≡ cond (near && ranged) (half_reply (rings_of plan) p) Outside
 unfolding plan_half_reply
 half_located plan p near ranged e f = λ i. cond (e i && f i) (half_reply (rings_of plan) p) Outside
+
+pub spot_located : (plan : Plan) (spot : Spot) (near ranged : Bool) → plan_in_range plan ≡ near → spot_in_range spot ≡ ranged → spot_reply plan spot ≡ cond (near && ranged) (near_reply plan spot) Outside
+spot_located plan (OnGrid p) near ranged e f = located plan p near ranged e f
+spot_located plan (Doubled p) near ranged e f = half_located plan p near ranged e f

@@ -4,4 +4,4 @@
 
 mod plan;
 
-pub use plan::{locate, locate_by_rings, locate_doubled, locate_doubled_by_rings};
+pub use plan::{locate, locate_by_rings};

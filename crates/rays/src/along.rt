@@ -1,77 +1,25 @@
 // How an edge counts for a point along each of the four rays (document 01, items 3 and 6).
 ghost use Rattle.std.specs.Prelude.{◌≡◌, not};
-ghost use Rattle.std.specs.Int.Signed.{le_z, lt_z};
 ghost use Rattle.integers.specs.Signs.{sign_of};
 ghost use Rattle.predicates.specs.Turn.{orientation};
-ghost use Rattle.rings.specs.Crossings.{upward_of, downward_of};
 ghost use Rattle.rays.specs.Along.{no_higher, is_beyond, left_if, crossing_along};
 
 use geom::Point;
 use integers::Sign;
 use predicates::{on_segment, orient};
-use rings::crossings::Crossing;
+use rings::crossings::{Crossing, downward, upward};
 use rules::Ray;
-
-// An edge that rises past the point's height.
-fn rising(turn: Sign) -> Crossing
-    ensures { result ≡ upward_of turn }
-{
-    match turn {
-        Sign::Negative => Crossing::Nothing,
-        Sign::Zero => Crossing::On,
-        Sign::Positive => Crossing::Up,
-    }
-}
-
-// An edge that falls past the point's height.
-fn falling(turn: Sign) -> Crossing
-    ensures { result ≡ downward_of turn }
-{
-    match turn {
-        Sign::Negative => Crossing::Down,
-        Sign::Zero => Crossing::On,
-        Sign::Positive => Crossing::Nothing,
-    }
-}
-
-// Whether a point is no higher than another.
-fn not_above(a: Point, b: Point) -> bool
-    ensures { result ≡ le_z a.y b.y }
-{
-    a.y <= b.y
-}
-
-// Whether a point is no farther right than another.
-fn not_right_of(a: Point, b: Point) -> bool
-    ensures { result ≡ le_z a.x b.x }
-{
-    a.x <= b.x
-}
 
 // Whether a corner is no higher than the point, seen so that the ray points right.
 fn no_higher(ray: Ray, corner: Point, p: Point) -> bool
     ensures { result ≡ no_higher ray corner p }
 {
     match ray {
-        Ray::Right => not_above(corner, p),
-        Ray::Left => not_above(p, corner),
-        Ray::Up => not_right_of(p, corner),
-        Ray::Down => not_right_of(corner, p),
+        Ray::Right => corner.y <= p.y,
+        Ray::Left => p.y <= corner.y,
+        Ray::Up => p.x <= corner.x,
+        Ray::Down => corner.x <= p.x,
     }
-}
-
-// Whether a point is higher than another.
-fn above(a: Point, b: Point) -> bool
-    ensures { result ≡ lt_z b.y a.y }
-{
-    b.y < a.y
-}
-
-// Whether a point is farther right than another.
-fn right_of(a: Point, b: Point) -> bool
-    ensures { result ≡ lt_z b.x a.x }
-{
-    b.x < a.x
 }
 
 // Whether a point is farther along the ray than another.
@@ -79,10 +27,10 @@ fn beyond(ray: Ray, a: Point, b: Point) -> bool
     ensures { result ≡ is_beyond ray a b }
 {
     match ray {
-        Ray::Right => right_of(a, b),
-        Ray::Left => right_of(b, a),
-        Ray::Up => above(a, b),
-        Ray::Down => above(b, a),
+        Ray::Right => b.x < a.x,
+        Ray::Left => a.x < b.x,
+        Ray::Up => b.y < a.y,
+        Ray::Down => a.y < b.y,
     }
 }
 
@@ -90,10 +38,7 @@ fn beyond(ray: Ray, a: Point, b: Point) -> bool
 fn left_if(flag: bool) -> Sign
     ensures { result ≡ left_if flag }
 {
-    if flag {
-        return Sign::Positive;
-    }
-    Sign::Negative
+    if flag { Sign::Positive } else { Sign::Negative }
 }
 
 // The turn from the edge to the point, where one end of the edge is higher than the point and the other is not: `rises` says that it is
@@ -123,10 +68,10 @@ pub fn crossing_along(ray: Ray, a: Point, b: Point, p: Point) -> Crossing
             }
             return Crossing::Nothing;
         }
-        return rising(passing_turn(ray, true, a, b, p));
+        return upward(passing_turn(ray, true, a, b, p));
     }
     if no_higher(ray, b, p) {
-        return falling(passing_turn(ray, false, a, b, p));
+        return downward(passing_turn(ray, false, a, b, p));
     }
     Crossing::Nothing
 }

@@ -1,5 +1,5 @@
 // Which of the four rays a look-up takes (document 01, item 6; `ray` of src/prepared.rs).
-ghost use Rattle.std.specs.Prelude.{◌≡◌, ◌-ℤ◌};
+ghost use Rattle.std.specs.Prelude.{◌≡◌};
 ghost use Rattle.std.specs.Int.Signed.{le_z};
 ghost use Rattle.integers.specs.Words.{value_of};
 ghost use Rattle.rules.specs.Rays.{distance, nearer as nearer_of, ray_of};
@@ -10,29 +10,15 @@ use geom::{Point, Rect};
 use integers::{Signed, difference};
 use rules::Ray;
 
-// How far a lies to the right of b.
-fn right_by(a: Point, b: Point) -> Signed
-    ensures { value_of result ≡ a.x -ℤ b.x }
-{
-    difference(a.x, b.x)
-}
-
-// How far a lies above b.
-fn above_by(a: Point, b: Point) -> Signed
-    ensures { value_of result ≡ a.y -ℤ b.y }
-{
-    difference(a.y, b.y)
-}
-
 // How far the ray goes from p to the box's side: exact, since the box of unsound tables may lie anywhere.
 fn distance_to(ray: Ray, root: Rect, p: Point) -> Signed
     ensures { value_of result ≡ distance ray root p }
 {
     match ray {
-        Ray::Right => right_by(root.max, p),
-        Ray::Left => right_by(p, root.min),
-        Ray::Up => above_by(root.max, p),
-        Ray::Down => above_by(p, root.min),
+        Ray::Right => difference(root.max.x, p.x),
+        Ray::Left => difference(p.x, root.min.x),
+        Ray::Up => difference(root.max.y, p.y),
+        Ray::Down => difference(p.y, root.min.y),
     }
 }
 
@@ -40,13 +26,11 @@ fn distance_to(ray: Ray, root: Rect, p: Point) -> Signed
 fn no_farther(d: Signed, e: Signed) -> bool
     ensures { result ≡ le_z (value_of d) (value_of e) }
 {
-    let d_word = d.word;
-    let e_word = e.word;
-    let d_borrow = d.borrow;
-    if d_borrow == e.borrow {
-        return d_word <= e_word;
+    if d.borrow == e.borrow {
+        d.word <= e.word
+    } else {
+        d.borrow
     }
-    d_borrow
 }
 
 // The ray with the lesser distance, the first in a tie.
@@ -54,9 +38,10 @@ fn nearer(root: Rect, p: Point, first: Ray, second: Ray) -> Ray
     ensures { result ≡ nearer_of root p first second }
 {
     if no_farther(distance_to(first, root, p), distance_to(second, root, p)) {
-        return first;
+        first
+    } else {
+        second
     }
-    second
 }
 
 /// The ray that reaches the root box's side soonest, ties in the order right, left, up, down; right if there are no edges.

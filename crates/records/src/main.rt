@@ -8,23 +8,24 @@
 // larger one each call is refused once for every reason that it has, and the records have to be as they were.
 #![tactic(auto)]
 
-mod list;
+ghost use Rattle.std.specs.Prelude.{◌≤◌};
 
 use corrections::move_corner;
 use geom::Point;
-use list::run;
-use model::Answer;
-use nodes::{Node, NodeRead, NodeWritten};
-use prepare::{Preparing, prepare};
-use refit::{Way, find_way};
+use nodes::{Node, node_at, put_node, refit_cut, refit_leaf};
+use prepare::prepare;
+use refit::{DEPTH, Way, find_way};
 use rules::{Kind, State};
 use std::io;
-use walk::place::{Place, place_of_edge};
+use walk::place::place_of_edge;
 
-// The most corners that a plan has, and a place that no list has.
+// The most corners that a plan has, and the nodes of an index over so many.
 const CORNERS: usize = 20;
 
-const NOWHERE: usize = 7;
+const NODES: usize = 7;
+
+// A place that no list has.
+const NOWHERE: usize = NODES;
 
 fn write(rt: &impl Print, text: &str) -> io::Result<()> {
     rt.print(text)
@@ -45,162 +46,68 @@ fn no_node() -> Node {
 
 // The node that the tables hold at place p.
 fn node_of(boxes: &[[i64; 4]], parts: &[[usize; 3]], p: usize) -> Node {
-    if boxes.len() <= p {
+    if boxes.len() <= p || parts.len() <= p {
         return no_node();
     }
-    if parts.len() <= p {
-        return no_node();
-    }
-    let a = boxes[p][0];
-    let b = boxes[p][1];
-    let c = boxes[p][2];
-    let d = boxes[p][3];
-    let first = parts[p][0];
-    let count = parts[p][1];
-    let child = parts[p][2];
+    let [min_x, min_y, max_x, max_y] = boxes[p];
+    let [first, count, child] = parts[p];
     Node {
-        min_x: a,
-        min_y: b,
-        max_x: c,
-        max_y: d,
-        first: first,
-        count: count,
-        child: child,
+        min_x,
+        min_y,
+        max_x,
+        max_y,
+        first,
+        count,
+        child,
     }
-}
-
-// Whether two nodes are the same in every number.
-fn same(a: Node, b: Node) -> bool {
-    let boxes = (a.min_x == b.min_x)
-        & (a.min_y == b.min_y)
-        & (a.max_x == b.max_x)
-        & (a.max_y == b.max_y);
-    boxes & (a.first == b.first) & (a.count == b.count) & (a.child == b.child)
 }
 
 // Corners that seem to have no order.
 fn put_coordinates(coordinates: &mut [i64]) {
-    let mut i: usize = 0;
-    while i < coordinates.len() {
-        coordinates[i] = (i % 101 * 37 % 101) as i64;
-        i += 1;
+    for (i, coordinate) in coordinates.iter_mut().enumerate() {
+        *coordinate = (i % 101 * 37 % 101) as i64;
     }
 }
 
-// The array with the node of each place of the tables put there.
-fn filled(
-    corners: &[i64],
-    rings: &[usize],
-    boxes: &[[i64; 4]],
-    parts: &[[usize; 3]],
-    edges: &[usize],
-    n: usize,
-) -> [Node; 7] {
-    let mut nodes: [Node; 7] = [no_node(); 7];
-    let mut p: usize = 0;
-    while p < 7 {
-        let node = node_of(boxes, parts, p);
-        let ran = run(
-            nodes,
-            corners,
-            rings,
-            edges,
-            n,
-            rings.len(),
-            p,
-            node,
-            NOWHERE,
-            NOWHERE,
-            NOWHERE,
-        );
-        nodes = ran.nodes;
-        p += 1;
+// The list with the node of each place of the tables put there.
+fn filled(boxes: &[[i64; 4]], parts: &[[usize; 3]]) -> [Node; NODES] {
+    let mut nodes = [no_node(); NODES];
+    for p in 0..NODES {
+        let _ = put_node(&mut nodes, p, node_of(boxes, parts, p));
     }
     nodes
 }
 
 // Whether every node that is read is the one that the tables hold there.
-fn alike(
-    nodes: [Node; 7],
-    corners: &[i64],
-    rings: &[usize],
-    boxes: &[[i64; 4]],
-    parts: &[[usize; 3]],
-    edges: &[usize],
-    n: usize,
-) -> bool {
-    let mut p: usize = 0;
-    while p < 7 {
-        let ran = run(
-            nodes,
-            corners,
-            rings,
-            edges,
-            n,
-            rings.len(),
-            NOWHERE,
-            no_node(),
-            NOWHERE,
-            NOWHERE,
-            p,
-        );
-        let read = ran.read;
-        match read {
-            NodeRead::At(node) => {
-                if !same(node, node_of(boxes, parts, p)) {
-                    return false;
-                }
-            }
-            NodeRead::Unsound => {
-                return false;
-            }
+fn alike(nodes: &[Node], boxes: &[[i64; 4]], parts: &[[usize; 3]]) -> bool {
+    for p in 0..nodes.len() {
+        let Ok(node) = node_at(nodes, p) else {
+            return false;
+        };
+        if node != node_of(boxes, parts, p) {
+            return false;
         }
-        p += 1;
     }
     true
 }
 
-// The nodes of a path refitted, the last of them, a leaf, by its edges and then each above it by its children.
-fn along(
-    nodes: [Node; 7],
-    corners: &[i64],
-    rings: &[usize],
-    edges: &[usize],
-    n: usize,
-    path: &[usize],
-    depth: usize,
-) -> [Node; 7] {
-    if path.len() < depth {
-        return nodes;
+// Refits the nodes of a path, the last of them, a leaf, by its edges and then each above it by its children.
+fn along(nodes: &mut [Node], corners: &[i64], rings: &[usize], edges: &[usize], n: usize, way: &Way)
+    requires { way.now.depth ≤ DEPTH }
+{
+    for k in (0..way.depth).rev() {
+        let p = way.path[k];
+        let _ = if k + 1 < way.depth {
+            refit_cut(nodes, p)
+        } else {
+            refit_leaf(nodes, corners, rings, edges, n, rings.len(), p)
+        };
     }
-    let mut fitted = nodes;
-    let mut k = depth;
-    while 0 < k {
-        k -= 1;
-        let p = path[k];
-        let cut = if k + 1 < depth { p } else { NOWHERE };
-        let leaf = if k + 1 < depth { NOWHERE } else { p };
-        let ran = run(
-            fitted,
-            corners,
-            rings,
-            edges,
-            n,
-            rings.len(),
-            NOWHERE,
-            no_node(),
-            leaf,
-            cut,
-            NOWHERE,
-        );
-        fitted = ran.nodes;
-    }
-    fitted
 }
 
-// The nodes above edge e refitted.
-fn refitted(
-    nodes: [Node; 7],
+// Refits the nodes above edge e.
+fn refit_above(
+    nodes: &mut [Node],
     corners: &[i64],
     rings: &[usize],
     boxes: &[[i64; 4]],
@@ -208,60 +115,30 @@ fn refitted(
     edges: &[usize],
     n: usize,
     e: usize,
-) -> [Node; 7] {
-    let mut path: [usize; 18] = [0; 18];
-    let mut stops: [usize; 8] = [0; 8];
-    match place_of_edge(corners, rings, boxes, parts, edges, n, rings.len(), e) {
-        Place::Unsound => nodes,
-        Place::At(k) => {
-            match find_way(
-                &mut path,
-                &mut stops,
-                rings,
-                parts,
-                edges,
-                n,
-                rings.len(),
-                k,
-            ) {
-                Way::Unsound => nodes,
-                Way::At(depth) => along(nodes, corners, rings, edges, n, &path, depth),
-            }
-        }
+) {
+    let Ok(k) = place_of_edge(corners, rings, boxes, parts, edges, n, rings.len(), e) else {
+        return;
+    };
+    if let Ok(way) = find_way(rings, parts, edges, n, rings.len(), k) {
+        along(nodes, corners, rings, edges, n, &way);
     }
 }
 
 // The edge that ends at a corner.
 fn edge_before(rings: &[usize], corner: usize) -> usize {
-    let mut start: usize = 0;
-    let mut r: usize = 0;
-    while r < rings.len() {
-        let end = rings[r];
-        if corner == start {
-            if start < end {
-                return end - 1;
-            }
+    let mut start = 0;
+    for &end in rings {
+        if corner == start && start < end {
+            return end - 1;
         }
         start = end;
-        r += 1;
     }
-    if corner == 0 {
-        return 0;
-    }
-    corner - 1
+    corner.saturating_sub(1)
 }
 
-fn is_accepted(answer: Answer) -> bool {
-    match answer {
-        Answer::Accepted => true,
-        Answer::At(_) => false,
-        Answer::Refused(_) => false,
-    }
-}
-
-// The records after a move of a corner: refitted along the path to the edge that starts there, and to the one that ends there.
-fn both_refitted(
-    nodes: [Node; 7],
+// Refits the records after a move of a corner, along the path to the edge that starts there and to the one that ends there.
+fn refit_both(
+    nodes: &mut [Node],
     corners: &[i64],
     rings: &[usize],
     boxes: &[[i64; 4]],
@@ -269,16 +146,16 @@ fn both_refitted(
     edges: &[usize],
     n: usize,
     corner: usize,
-) -> [Node; 7] {
+) {
     let before = edge_before(rings, corner);
-    let started = refitted(nodes, corners, rings, boxes, parts, edges, n, corner);
-    refitted(started, corners, rings, boxes, parts, edges, n, before)
+    refit_above(nodes, corners, rings, boxes, parts, edges, n, corner);
+    refit_above(nodes, corners, rings, boxes, parts, edges, n, before);
 }
 
 // Moves each corner in turn, once far out and once back in, so many moves together. Whether every move is accepted and the records are
 // then what the tables are.
 fn moved(
-    nodes: [Node; 7],
+    nodes: [Node; NODES],
     state: State,
     corners: &mut [i64],
     rings: &[usize],
@@ -292,57 +169,26 @@ fn moved(
     let mut now = state;
     let mut records = nodes;
     let mut held = true;
-    let mut i: usize = 0;
-    while i < moves {
+    for i in 0..moves {
         let far = ((i + 1) % 2 * 500) as i64;
         let place = Point { x: far, y: 7 };
         let corner = i / 2;
-        let corrected = move_corner(
+        let Ok(next) = move_corner(
             now, corners, rings, boxes, parts, edges, undo, corner, place,
-        );
-        now = corrected.state;
-        let answer = corrected.answer;
-        let accepted = is_accepted(answer);
-        let fitted = both_refitted(records, corners, rings, boxes, parts, edges, n, corner);
-        records = fitted;
-        held = held & accepted & alike(records, corners, rings, boxes, parts, edges, n);
-        i += 1;
+        ) else {
+            return false;
+        };
+        now = next;
+        refit_both(&mut records, corners, rings, boxes, parts, edges, n, corner);
+        held &= alike(&records, boxes, parts);
     }
     held
-}
-
-fn is_refused(written: NodeWritten) -> bool {
-    match written {
-        NodeWritten::Done => false,
-        NodeWritten::Unsound => true,
-    }
-}
-
-fn is_unread(read: NodeRead) -> bool {
-    match read {
-        NodeRead::At(_) => false,
-        NodeRead::Unsound => true,
-    }
-}
-
-// Whether two lists are the same, node by node.
-fn same_list(a: [Node; 7], b: [Node; 7]) -> bool {
-    let mut p: usize = 0;
-    while p < 7 {
-        let x = a[p];
-        let y = b[p];
-        if !same(x, y) {
-            return false;
-        }
-        p += 1;
-    }
-    true
 }
 
 // Whether the refits of a leaf and of a cut node at these places are refused over tables of n corners and `count` rings, and with them a
 // put and a read past the list, and all of them leave the list as it was.
 fn refused(
-    nodes: [Node; 7],
+    nodes: [Node; NODES],
     corners: &[i64],
     rings: &[usize],
     edges: &[usize],
@@ -351,42 +197,25 @@ fn refused(
     leaf: usize,
     cut: usize,
 ) -> bool {
-    let ran = run(
-        nodes,
-        corners,
-        rings,
-        edges,
-        n,
-        count,
-        NOWHERE,
-        no_node(),
-        leaf,
-        cut,
-        NOWHERE,
-    );
-    let put = ran.put;
-    let fitted = ran.leaf;
-    let joined = ran.cut;
-    let read = ran.read;
-    let after = ran.nodes;
-    is_refused(put)
-        & is_refused(fitted)
-        & is_refused(joined)
-        & is_unread(read)
-        & same_list(nodes, after)
+    let mut list = nodes;
+    put_node(&mut list, NOWHERE, no_node()).is_err()
+        & refit_leaf(&mut list, corners, rings, edges, n, count, leaf).is_err()
+        & refit_cut(&mut list, cut).is_err()
+        & node_at(&list, NOWHERE).is_err()
+        & (list == nodes)
 }
 
 // The list with a node at place 6 of this part and this child, in a box of its own.
-fn damaged(nodes: [Node; 7], first: usize, count: usize, child: usize) -> [Node; 7] {
+fn damaged(nodes: [Node; NODES], first: usize, count: usize, child: usize) -> [Node; NODES] {
     let mut list = nodes;
     list[6] = Node {
         min_x: 1,
         min_y: 2,
         max_x: 3,
         max_y: 4,
-        first: first,
-        count: count,
-        child: child,
+        first,
+        count,
+        child,
     };
     list
 }
@@ -399,14 +228,14 @@ fn write_whether(rt: &impl Print, name: &str, held: bool) -> io::Result<()> {
 // What tables of other lengths or numbers get, for the leaf at place 6 of a plan of 20 corners in three rings.
 fn refused_tables(
     rt: &impl Print,
-    nodes: [Node; 7],
+    nodes: [Node; NODES],
     corners: &[i64],
     rings: &[usize],
     edges: &[usize],
 ) -> io::Result<()> {
-    let few: [i64; 38] = [0; 38];
-    let falling: [usize; 3] = [9, 8, 20];
-    let nowhere: [usize; CORNERS] = [20; CORNERS];
+    let few = [0; 38];
+    let falling = [9, 8, 20];
+    let nowhere = [20; CORNERS];
     write_whether(
         rt,
         "too few corners refused",
@@ -437,13 +266,13 @@ fn refused_tables(
 // What places and nodes get that lead outside their table.
 fn refused_nodes(
     rt: &impl Print,
-    nodes: [Node; 7],
+    nodes: [Node; NODES],
     corners: &[i64],
     rings: &[usize],
     edges: &[usize],
 ) -> io::Result<()> {
     let past = damaged(nodes, 20, 9, 6);
-    let far = damaged(nodes, 21, 9, 18446744073709551615);
+    let far = damaged(nodes, 21, 9, usize::MAX);
     write_whether(
         rt,
         "a place past the list refused",
@@ -478,13 +307,9 @@ fn examine(
     moves: usize,
 ) -> io::Result<()> {
     let n = moves / 2;
-    let mut undo: [[i64; 3]; 40] = [[0; 3]; 40];
-    let nodes = filled(corners, rings, boxes, parts, edges, n);
-    write_whether(
-        rt,
-        "filled",
-        alike(nodes, corners, rings, boxes, parts, edges, n),
-    )?;
+    let mut undo = [[0; 3]; 2 * CORNERS];
+    let nodes = filled(boxes, parts);
+    write_whether(rt, "filled", alike(&nodes, boxes, parts))?;
     if n == CORNERS {
         refused_tables(rt, nodes, corners, rings, edges)?;
         refused_nodes(rt, nodes, corners, rings, edges)?;
@@ -501,13 +326,13 @@ fn examine(
 
 // Prepares a tree of three rings, of at most 20 corners together, and asks.
 fn examine_plan(rt: &impl Print, coordinates: &[i64], lengths: &[usize]) -> io::Result<()> {
-    let counts: [usize; 0] = [];
-    let mut corners: [i64; 40] = [0; 40];
-    let mut rings: [usize; 3] = [0; 3];
-    let mut polygons: [usize; 0] = [];
-    let mut boxes: [[i64; 4]; 7] = [[0; 4]; 7];
-    let mut parts: [[usize; 3]; 7] = [[0; 3]; 7];
-    let mut edges: [usize; CORNERS] = [0; CORNERS];
+    let counts = [];
+    let mut corners = [0; 2 * CORNERS];
+    let mut rings = [0; 3];
+    let mut polygons = [];
+    let mut boxes = [[0; 4]; NODES];
+    let mut parts = [[0; 3]; NODES];
+    let mut edges = [0; CORNERS];
     match prepare(
         Kind::Tree,
         coordinates,
@@ -520,10 +345,10 @@ fn examine_plan(rt: &impl Print, coordinates: &[i64], lengths: &[usize]) -> io::
         &mut parts,
         &mut edges,
     ) {
-        Preparing::Refused(_) => write(rt, "refused\n"),
-        Preparing::Ready(state, _) => examine(
+        Err(_) => write(rt, "refused\n"),
+        Ok(ready) => examine(
             rt,
-            state,
+            ready.state,
             &mut corners,
             &rings,
             &mut boxes,
@@ -535,8 +360,8 @@ fn examine_plan(rt: &impl Print, coordinates: &[i64], lengths: &[usize]) -> io::
 }
 
 fn main(rt: HostRuntime) -> io::Result<()> {
-    let mut many: [i64; 40] = [0; 40];
-    let mut few: [i64; 16] = [0; 16];
+    let mut many = [0; 2 * CORNERS];
+    let mut few = [0; 16];
     put_coordinates(&mut many);
     put_coordinates(&mut few);
     write(&rt, "20 corners in three rings, one of them empty\n")?;

@@ -6,8 +6,6 @@ use Prim.Native.Nat.{ℕ, zero, suc, ◌+◌, ◌-◌, ◌/◌, ◌^◌, ◌≤�
 use native.Mathlib.Numerals.{add-one}
 use native.Mathlib.Decide.{ℕ_discrete, dec_lt}
 use native.Mathlib.Omega.{arith}
-use borrow.Author.Tests.{eq-eqb, ne_eqb}
-use lib.Dec.{eqb}
 use lib.IntN.{ℤ}
 use lib.ListN.{length, get_or, set}
 use lib.Seq.{get_or-set_same, get_or-set_other}
@@ -17,20 +15,9 @@ use Rattle.index.specs.Sound.{IndexSound}
 use Rattle.index.proofs.Counts.{node_count_some}
 use Rattle.index.proofs.Shaping.{shallow, halved}
 use Rattle.index.proofs.Soundness.{every_node, children_later, part_inside}
-use Rattle.refit.specs.Paths.{Whether, Holds, Open, Below, Leads, PathTo, RefitSound}
-
--- a flag that is a test of two numbers
-pub whether_equal : (A : Type 0) (x y : ℕ) → (x ≡ y → A) → (A → x ≡ y) → Whether A (eqb x y)
-whether_equal A x y f g = go (ℕ_discrete x y)
-  where
-    go : Dec (x ≡ y) → Whether A (eqb x y)
-    go (yes e) = rw (eq-eqb x y e) (f e)
-    go (no d) = rw (ne_eqb x y d) (λ a. d (g a))
+use Rattle.refit.specs.Paths.{Holds, Open, Below, Leads, PathTo, RefitSound}
 
 -- ---- node by node, on any tables
-pub leads_start : (parts : List (List ℕ)) (nodes k : ℕ) (path : List ℕ) → get_or path 0 0 ≡ 0 → Leads parts nodes k path 1
-leads_start parts nodes k path e = record { some = omega arith; few = omega arith; root = e; down = λ j h. absurd (omega arith) }
-
 pub leads_more : (parts : List (List ℕ)) (nodes k : ℕ) (path : List ℕ) (depth c : ℕ) → 18 ≤ length path → depth < 18 → Leads parts nodes k path depth → Below parts nodes k (get_or path (depth - 1) 0) c → Leads parts nodes k (set path depth c) (depth + 1)
 leads_more parts nodes k path depth c room few L B = record {
   some = omega arith;

@@ -11,16 +11,11 @@ use Rattle.boxes.specs.Rings.{start_of, next_in, next_corner, RingAt, RingEnds}
 use Rattle.boxes.specs.Boxes.{Names}
 use Rattle.boxes.proofs.Rings.{start_pred, searchable, next_of_ring, next_inside}
 use Rattle.rules.specs.Nodes.{node_count}
-use Rattle.index.specs.Build.{KeptFrom}
 use Rattle.index.specs.Parts.{first_at, count_at}
 use Rattle.index.proofs.Soundness.{part_names}
-use Rattle.index.proofs.Tables.{kept_all}
 use Rattle.refit.specs.Paths.{PathTo, Stops, RefitSound, Lent, Found, WayRefused}
 
 module _ (n count : ℕ) (rings edges : List ℕ) (f : ℕ) where
-  pub stops_none : (stops : List ℕ) → Stops n count rings edges f 0 stops
-  stops_none stops = record { edge = λ j l. absurd (omega arith); inside = λ j l. absurd (omega arith); named = λ R j l. absurd (omega arith) }
-
   -- what is found in the ring of an edge is where the edge ends
   stop_named : RingEnds n count rings → (e r : ℕ) → RingAt rings count e r → (d : ℕ) → d ≡ next_in (start_of rings r) (get_or rings r 0) e → d ≡ next_corner rings e
   stop_named R e r A d q = q ∙ sym (next_of_ring n count rings R e r A)
@@ -52,22 +47,13 @@ module _ (n count : ℕ) (rings edges : List ℕ) (f : ℕ) where
   pub stop_outside : (m j : ℕ) → j < m → (r : ℕ) → RingAt rings count (get_or edges (f + j) 0) r → (d : ℕ) → d ≡ next_in (start_of rings r) (get_or rings r 0) (get_or edges (f + j) 0) → n ≤ d → RingEnds n count rings → Names n edges f m → ⊥
   stop_outside m j l r A d q out R N = omega (arith, stop_named R (get_or edges (f + j) 0) r A d q, next_inside n count rings R (get_or edges (f + j) 0) (N.each (f + j) (omega arith) (omega arith)))
 
-  pub edge_outside : (m j : ℕ) → j < m → n ≤ get_or edges (f + j) 0 → RingEnds n count rings → Names n edges f m → ⊥
-  edge_outside m j l out R N = omega (arith, N.each (f + j) (omega arith) (omega arith))
-
 -- ---- the way to a place
-pub way_refused : (n count : ℕ) (rings : List ℕ) (parts : List (List ℕ)) (edges : List ℕ) (k : ℕ) (path stops path' stops' : List ℕ) → Lent n count k (length path) (length stops) rings (length parts) (length edges) → KeptFrom 18 path path' → KeptFrom 8 stops stops'
-    → ((corners : List ℤ) (boxes : List (List ℤ)) → RefitSound n count corners rings boxes parts edges → ⊥) → WayRefused n count rings parts edges k path stops path' stops'
-way_refused n count rings parts edges k path stops path' stops' L K J f = record { number = refl; never = λ room space place. f; path_space = K; stops_space = J; unlent = λ g. absurd (g L) }
-
 module _ (n count : ℕ) (rings : List ℕ) (parts : List (List ℕ)) (edges : List ℕ) (k : ℕ) where
   -- sound tables are long enough
-  sound_lent : (path stops : ℕ) → 18 ≤ path → 8 ≤ stops → k < n → (corners : List ℤ) (boxes : List (List ℤ)) → RefitSound n count corners rings boxes parts edges → Lent n count k path stops rings (length parts) (length edges)
-  sound_lent path stops room space place corners boxes T =
+  sound_lent : k < n → (corners : List ℤ) (boxes : List (List ℤ)) → RefitSound n count corners rings boxes parts edges → Lent n count k rings (length parts) (length edges)
+  sound_lent place corners boxes T =
       let asks = searchable n count rings T.ends k place in
       record {
-        path_reach = room;
-        stops_reach = space;
         some = asks.0;
         rings_reach = asks.1;
         last_end = sym (start_pred rings count asks.0) ∙ T.ends.all;
@@ -76,29 +62,22 @@ module _ (n count : ℕ) (rings : List ℕ) (parts : List (List ℕ)) (edges : L
         place = place;
       }
 
-  pub way_unlent : (path stops : List ℕ) → (Lent n count k (length path) (length stops) rings (length parts) (length edges) → ⊥) → WayRefused n count rings parts edges k path stops path stops
-  way_unlent path stops f = record {
-    number = refl;
-    never = λ room space place corners boxes T. f (sound_lent (length path) (length stops) room space place corners boxes T);
-    path_space = kept_all 18 path;
-    stops_space = kept_all 8 stops;
-    unlent = λ g. (refl, refl);
-  }
+  pub way_unlent : (Lent n count k rings (length parts) (length edges) → ⊥) → WayRefused n count rings parts edges k
+  way_unlent f = record { number = refl; never = λ place corners boxes T. f (sound_lent place corners boxes T) }
 
   -- a path, and where the edges of its leaf end, make the way
-  pub way_found : (path stops : List ℕ) (depth nodes : ℕ) → Lent n count k (length path) (length stops) rings (length parts) (length edges) → nodes ≡ node_count n → PathTo n parts nodes k path depth
+  pub way_found : (path stops : List ℕ) (depth nodes : ℕ) → length path ≡ 18 → length stops ≡ 8 → Lent n count k rings (length parts) (length edges) → nodes ≡ node_count n → PathTo n parts nodes k path depth
       → Stops n count rings edges (first_at parts (get_or path (depth - 1) 0)) (count_at parts (get_or path (depth - 1) 0)) stops → Found n count rings parts edges k path stops depth
-  way_found path stops depth nodes L all P T = record {
-    number = refl;
+  way_found path stops depth nodes room space L all P T = record {
     place = L.place;
     lent = L;
     fine = record {
       some = P.leads.some;
-      path_reach = omega (arith, P.leads.few, L.path_reach);
+      path_reach = omega (arith, P.leads.few);
       parts_reach = L.parts_reach;
       nodes = λ j l. inside j l (ℕ_discrete j (depth - 1));
       children = λ j l. let h = (P.leads.down j l).children in omega arith;
-      spans = record { edges_reach = omega (arith, P.leaf.fits, L.edges_reach); stops_reach = omega (arith, P.leaf.small, L.stops_reach); start = T.edge; stop = T.inside };
+      spans = record { edges_reach = omega (arith, P.leaf.fits, L.edges_reach); stops_reach = omega (arith, P.leaf.small); start = T.edge; stop = T.inside };
     };
     path_to = subst (λ (m : ℕ). PathTo n parts m k path depth) all P;
     stops_are = T;

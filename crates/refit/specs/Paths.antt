@@ -1,24 +1,19 @@
 -- The path from the root to a place of the edge list, and what a refit along it reads (document 01, item 9 and refusal 15).
-use Rattle.std.specs.Prelude.{◌≡◌, Bool, true, false, List, ℕ, ◌+◌, ◌-◌, ◌/◌, ◌≤◌, ◌<◌, ℤ, length, get_or}
+use Rattle.std.specs.Prelude.{◌≡◌, Bool, true, false, List, ℕ, ◌+◌, ◌-◌, ◌/◌, ◌≤◌, ◌<◌, ℤ, length, get_or, Option, Some, None, Result, Ok, Err}
 use Rattle.rules.specs.declared.Refusal as Refusal
+use Rattle.rules.specs.declared.Unsound.{Unsound}
 use Rattle.rules.specs.Nodes.{node_count}
 use Rattle.rules.specs.Numbers.{refusal_number}
 use Rattle.boxes.specs.Boxes.{Names}
 use Rattle.boxes.specs.Rings.{next_corner, RingEnds}
-use Rattle.index.specs.Build.{KeptFrom}
 use Rattle.index.specs.Parts.{first_at, count_at, child_at}
 use Rattle.index.specs.Sound.{IndexSound}
-use Rattle.refit.specs.declared.Step.{Step}
-use Rattle.refit.specs.declared.Step as Step
-use Rattle.refit.specs.declared.Step.TheVariants.{Leaf, Down}
 use Rattle.refit.specs.declared.Way.{Way}
-use Rattle.refit.specs.declared.Way as Way
-use Rattle.refit.specs.declared.Way.TheVariants.{At}
 
--- 0 for a path, or the refusal
-abbrev pub way_number : Way → ℕ
-way_number (At depth) = 0
-way_number Way.TheVariants.Unsound = refusal_number Refusal.TheVariants.Unsound
+-- 0 for a way, or the refusal
+abbrev pub way_number : Result Way Unsound → ℕ
+way_number (Ok way) = 0
+way_number (Err _) = refusal_number Refusal.TheVariants.Unsound
 
 -- a flag says whether something holds
 abbrev pub Whether : Type 0 → Bool → Type 0
@@ -53,10 +48,10 @@ pub record Below (parts : List (List ℕ)) (nodes k p c : ℕ) : Type 0 where
   pub left : k < first_at parts p + count_at parts p / 2 → c ≡ child_at parts p
   pub right : first_at parts p + count_at parts p / 2 ≤ k → c ≡ child_at parts p + 1
 
-abbrev pub StepSays : List (List ℕ) → ℕ → ℕ → ℕ → ℕ → Step → Type 0
-StepSays parts n nodes k p Leaf = LeafAt parts n nodes p
-StepSays parts n nodes k p (Down c) = Below parts nodes k p c
-StepSays parts n nodes k p Step.TheVariants.Unsound = Open parts n nodes k p → ⊥
+abbrev pub StepSays : List (List ℕ) → ℕ → ℕ → ℕ → ℕ → Result (Option ℕ) Unsound → Type 0
+StepSays parts n nodes k p (Ok None) = LeafAt parts n nodes p
+StepSays parts n nodes k p (Ok (Some c)) = Below parts nodes k p c
+StepSays parts n nodes k p (Err _) = Open parts n nodes k p → ⊥
 
 -- the m places from f on stand in the edge list, and their edges start and end at corners below n
 pub record Spans (n : ℕ) (edges stops : List ℕ) (f m : ℕ) : Type 0 where
@@ -86,9 +81,9 @@ pub record RefitSound (n count : ℕ) (corners : List ℤ) (rings : List ℕ) (b
   pub ends : RingEnds n count rings
   pub index : IndexSound n corners rings boxes parts edges
 
-abbrev pub PathSays : ℕ → List (List ℕ) → ℕ → ℕ → List ℕ → Way → Type 0
-PathSays n parts nodes k path (At depth) = PathTo n parts nodes k path depth
-PathSays n parts nodes k path Way.TheVariants.Unsound = (count : ℕ) (corners : List ℤ) (rings : List ℕ) (boxes : List (List ℤ)) (edges : List ℕ) → RefitSound n count corners rings boxes parts edges → ⊥
+abbrev pub PathSays : ℕ → List (List ℕ) → ℕ → ℕ → Result Way Unsound → Type 0
+PathSays n parts nodes k (Ok way) = (length way.path ≡ 18) × PathTo n parts nodes k way.path way.depth
+PathSays n parts nodes k (Err _) = (count : ℕ) (corners : List ℤ) (rings : List ℕ) (boxes : List (List ℤ)) (edges : List ℕ) → RefitSound n count corners rings boxes parts edges → ⊥
 
 -- ---- the corners at which a leaf's edges end
 
@@ -98,17 +93,14 @@ pub record Stops (n count : ℕ) (rings edges : List ℕ) (f m : ℕ) (stops : L
   pub inside : (j : ℕ) → j < m → get_or stops j 0 < n
   pub named : RingEnds n count rings → (j : ℕ) → j < m → get_or stops j 0 ≡ next_corner rings (get_or edges (f + j) 0)
 
-abbrev pub StopsSay : ℕ → ℕ → List ℕ → List ℕ → ℕ → ℕ → List ℕ → Bool → Type 0
-StopsSay n count rings edges f m stops true = Stops n count rings edges f m stops
-StopsSay n count rings edges f m stops false = RingEnds n count rings → Names n edges f m → ⊥
+abbrev pub StopsSay : ℕ → ℕ → List ℕ → List ℕ → ℕ → ℕ → Result (List ℕ) Unsound → Type 0
+StopsSay n count rings edges f m (Ok stops) = (length stops ≡ 8) × Stops n count rings edges f m stops
+StopsSay n count rings edges f m (Err _) = RingEnds n count rings → Names n edges f m → ⊥
 
 -- ---- the way to a place
 
--- the path and the corners have room, no table is shorter than the state says, the last ring ends at the last corner, and the edge
--- list has a place k
-pub record Lent (n count k path stops : ℕ) (rings : List ℕ) (parts edges : ℕ) : Type 0 where
-  pub path_reach : 18 ≤ path
-  pub stops_reach : 8 ≤ stops
+-- no table is shorter than the state says, the last ring ends at the last corner, and the edge list has a place k
+pub record Lent (n count k : ℕ) (rings : List ℕ) (parts edges : ℕ) : Type 0 where
   pub some : 0 < count
   pub rings_reach : count ≤ length rings
   pub last_end : get_or rings (count - 1) 0 ≡ n
@@ -127,28 +119,21 @@ pub record Fine (n : ℕ) (parts : List (List ℕ)) (edges path stops : List ℕ
 
 -- the way to place k: its path, and where the edges of its leaf end. Whatever is too short for the state has no way
 pub record Found (n count : ℕ) (rings : List ℕ) (parts : List (List ℕ)) (edges : List ℕ) (k : ℕ) (path stops : List ℕ) (depth : ℕ) : Type 0 where
-  pub number : way_number (At depth) ≡ 0
   pub place : k < n
-  pub lent : Lent n count k (length path) (length stops) rings (length parts) (length edges)
+  pub lent : Lent n count k rings (length parts) (length edges)
   pub fine : Fine n parts edges path stops depth
   pub path_to : PathTo n parts (node_count n) k path depth
   pub stops_are : Stops n count rings edges (first_at parts (get_or path (depth - 1) 0)) (count_at parts (get_or path (depth - 1) 0)) stops
 
--- the way found, in what was lent as working space: of the path only the first 18 numbers may have changed, and of the stops the first 8
-pub record WayFound (n count : ℕ) (rings : List ℕ) (parts : List (List ℕ)) (edges : List ℕ) (k : ℕ) (path stops path' stops' : List ℕ) (depth : ℕ) : Type 0 where
-  pub found : Found n count rings parts edges k path' stops' depth
-  pub path_space : KeptFrom 18 path path'
-  pub stops_space : KeptFrom 8 stops stops'
+pub record WayFound (n count : ℕ) (rings : List ℕ) (parts : List (List ℕ)) (edges : List ℕ) (k : ℕ) (way : Way) : Type 0 where
+  pub number : way_number (Ok way) ≡ 0
+  pub found : Found n count rings parts edges k way.path way.stops way.depth
 
--- 15: never on sound tables that have a place k, with room. Path and stops are working space, of which only the first 18 and the first 8
--- numbers may have changed, and none where a table or one of the two is too short
-pub record WayRefused (n count : ℕ) (rings : List ℕ) (parts : List (List ℕ)) (edges : List ℕ) (k : ℕ) (path stops path' stops' : List ℕ) : Type 0 where
-  pub number : way_number Way.TheVariants.Unsound ≡ 15
-  pub never : 18 ≤ length path → 8 ≤ length stops → k < n → (corners : List ℤ) (boxes : List (List ℤ)) → RefitSound n count corners rings boxes parts edges → ⊥
-  pub path_space : KeptFrom 18 path path'
-  pub stops_space : KeptFrom 8 stops stops'
-  pub unlent : (Lent n count k (length path) (length stops) rings (length parts) (length edges) → ⊥) → (path' ≡ path) × (stops' ≡ stops)
+-- 15: never on sound tables that have a place k
+pub record WayRefused (n count : ℕ) (rings : List ℕ) (parts : List (List ℕ)) (edges : List ℕ) (k : ℕ) : Type 0 where
+  pub number : way_number (Err (record {})) ≡ 15
+  pub never : k < n → (corners : List ℤ) (boxes : List (List ℤ)) → RefitSound n count corners rings boxes parts edges → ⊥
 
-abbrev pub WaySays : ℕ → ℕ → List ℕ → List (List ℕ) → List ℕ → ℕ → List ℕ → List ℕ → List ℕ → List ℕ → Way → Type 0
-WaySays n count rings parts edges k path stops path' stops' (At depth) = WayFound n count rings parts edges k path stops path' stops' depth
-WaySays n count rings parts edges k path stops path' stops' Way.TheVariants.Unsound = WayRefused n count rings parts edges k path stops path' stops'
+abbrev pub WaySays : ℕ → ℕ → List ℕ → List (List ℕ) → List ℕ → ℕ → Result Way Unsound → Type 0
+WaySays n count rings parts edges k (Ok way) = WayFound n count rings parts edges k way
+WaySays n count rings parts edges k (Err _) = WayRefused n count rings parts edges k

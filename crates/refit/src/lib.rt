@@ -5,7 +5,6 @@
 ghost use Rattle.std.specs.Prelude.{◌≡◌, ◌+◌, ◌-◌, ◌*◌, ◌<◌, ◌≤◌, length, get_or, set};
 ghost use Rattle.rules.specs.Nodes.{node_count};
 ghost use Rattle.boxes.specs.Boxes.{row_of};
-ghost use Rattle.index.specs.Build.{KeptFrom};
 ghost use Rattle.index.specs.Parts.{first_at, count_at, child_at};
 ghost use Rattle.refit.specs.Paths.{Whether, StepSays, PathSays, StopsSay, Lent, Spans, Fine, WaySays};
 ghost use Rattle.refit.specs.Refits.{span_of, leaf_box, cut_box, leaf_fitted, Refit};
@@ -15,129 +14,109 @@ use geom::Rect;
 use index::build::LEAF;
 use index::count::node_count;
 use plans::corner_at;
+use rules::Unsound;
 
-/// The most nodes from the root of a sound index down to a leaf, and the least length of the path that `find_way` is lent.
+/// The most nodes from the root of a sound index down to a leaf.
 pub const DEPTH: usize = 18;
 
-/// The way to a place of the edge list.
+/// The way to a place of the edge list, in arrays of the value's own.
 #[derive(Clone, Copy)]
-pub enum Way {
-    /// How many nodes the path to it has: the root first, the leaf last.
-    At(usize),
-    /// 15: no such place, a number outside its table, more than 18 nodes, a last ring that ends elsewhere than at the last corner, or a
-    /// table, path or stops too short.
-    Unsound,
+pub struct Way {
+    /// The nodes on the path to it: the root first, the leaf last.
+    pub path: [usize; DEPTH],
+    /// How many nodes the path has.
+    pub depth: usize,
+    /// The corners at which the edges of the leaf end, one after another.
+    pub stops: [usize; LEAF],
 }
 
-// A step from a node towards a place.
-#[derive(Clone, Copy)]
-pub(crate) enum Step {
-    // the node is a leaf
-    Leaf,
-    // the child on whose side the place lies
-    Down(usize),
-    // one of the node's numbers is outside its table
-    Unsound,
-}
-
-// From node p towards place k, with every number that the node names tested.
-fn step_to(parts: &[[usize; 3]], n: usize, nodes: usize, k: usize, p: usize) -> Step
+// From node p towards place k: the child on whose side the place lies, or `None` at a leaf. Every number that the node names is tested,
+// and 15 says that one is outside its table.
+fn step_to(
+    parts: &[[usize; 3]],
+    n: usize,
+    nodes: usize,
+    k: usize,
+    p: usize,
+) -> Result<Option<usize>, Unsound>
     requires { (nodes ≤ length parts.now) × (k < n) }
     ensures { StepSays parts.now n nodes k p result }
 {
     if nodes <= p {
-        return Step::Unsound;
+        return Err(Unsound);
     }
-    let first = parts[p][0];
-    let size = parts[p][1];
-    if k < first {
-        return Step::Unsound;
-    }
-    if n - first < size {
-        return Step::Unsound;
+    let [first, size, child] = parts[p];
+    if k < first || n - first < size {
+        return Err(Unsound);
     }
     if size <= LEAF {
-        return Step::Leaf;
+        return Ok(None);
     }
-    let child = parts[p][2];
     if nodes - 1 <= child {
-        return Step::Unsound;
+        return Err(Unsound);
     }
     if k - first < size / 2 {
-        return Step::Down(child);
+        return Ok(Some(child));
     }
-    Step::Down(child + 1)
+    Ok(Some(child + 1))
 }
 
-// The nodes on whose side place k lies, the root first: on sound tables those whose parts hold it. Only the path is written.
-fn path_to(path: &mut [usize], parts: &[[usize; 3]], n: usize, nodes: usize, k: usize) -> Way
-    requires in_bounds { (18 ≤ length path.old) × (nodes ≤ length parts.now) }
+// The way to place k but for its stops: its path has the nodes on whose side the place lies, the root first, on sound tables those whose parts
+// hold it.
+fn path_to(parts: &[[usize; 3]], n: usize, nodes: usize, k: usize) -> Result<Way, Unsound>
+    requires in_bounds { nodes ≤ length parts.now }
     requires index_place { (nodes ≡ node_count n) × (k < n) }
-    ensures path_says { PathSays n parts.now nodes k path.new result }
-    ensures kept_from { KeptFrom 18 path.old path.new }
+    ensures { PathSays n parts.now nodes k result }
 {
-    path[0] = 0;
-    let mut depth: usize = 1;
-    let mut p: usize = 0;
-    loop {
-        match step_to(parts, n, nodes, k, p) {
-            Step::Unsound => {
-                return Way::Unsound;
-            }
-            Step::Leaf => {
-                return Way::At(depth);
-            }
-            Step::Down(child) => {
-                if DEPTH <= depth {
-                    return Way::Unsound;
-                }
-                path[depth] = child;
-                depth += 1;
-                p = child;
-            }
+    let mut way = Way {
+        path: [0; DEPTH],
+        depth: 1,
+        stops: [0; LEAF],
+    };
+    let mut p = 0;
+    while let Some(child) = step_to(parts, n, nodes, k, p)? {
+        if DEPTH <= way.depth {
+            return Err(Unsound);
         }
+        way.path[way.depth] = child;
+        way.depth += 1;
+        p = child;
     }
+    Ok(way)
 }
 
-// The corners at which the edges at the `size` places from `first` on end, one after another, each edge and each corner tested. Only
-// `stops` is written.
-fn put_stops(
-    stops: &mut [usize],
+// The corners at which the edges at the `size` places from `first` on end, one after another, each edge and each corner tested.
+fn stops_of(
     rings: &[usize],
     edges: &[usize],
     n: usize,
     count: usize,
     first: usize,
     size: usize,
-) -> bool
+) -> Result<[usize; LEAF], Unsound>
     requires last_ring_ends { (0 < count) × (count ≤ length rings.now) × (get_or rings.now (count - 1) 0 ≡ n) }
-    requires size_in_bounds { (first + size ≤ length edges.now) × (size ≤ length stops.old) }
-    ensures stops_say { StopsSay n count rings.now edges.now first size stops.new result }
-    ensures kept_from { KeptFrom size stops.old stops.new }
+    requires size_in_bounds { (first + size ≤ length edges.now) × (size ≤ 8) }
+    ensures { StopsSay n count rings.now edges.now first size result }
 {
-    let mut ring: usize = 0;
-    let mut j: usize = 0;
-    while j < size {
+    let mut stops = [0; LEAF];
+    let mut ring = 0;
+    for j in 0..size {
         let e = edges[first + j];
         if n <= e {
-            return false;
+            return Err(Unsound);
         }
         ring = ring_near(rings, count, e, ring);
         let stop = next_corner(rings, ring, e);
         if n <= stop {
-            return false;
+            return Err(Unsound);
         }
         stops[j] = stop;
-        j += 1;
     }
-    true
+    Ok(stops)
 }
 
-// Whether path and stops have room for so many, no table is shorter than the state says, the last ring ends at the last corner, and
-// the edge list has a place k.
+// Whether no table is shorter than the state says, the last ring ends at the last corner, and the edge list has a place k.
 fn lent_enough(
-    path: usize,
-    stops: usize,
     rings: &[usize],
     parts: &[[usize; 3]],
     edges: &[usize],
@@ -145,67 +124,39 @@ fn lent_enough(
     count: usize,
     k: usize,
 ) -> bool
-    ensures { Whether (Lent n count k path stops rings.now (length parts.now) (length edges.now)) result }
+    ensures { Whether (Lent n count k rings.now (length parts.now) (length edges.now)) result }
 {
-    if path < DEPTH {
-        return false;
-    }
-    if stops < LEAF {
-        return false;
-    }
-    if parts.len() < node_count(n) {
-        return false;
-    }
-    if edges.len() < n {
-        return false;
-    }
-    if n <= k {
-        return false;
-    }
-    if count == 0 {
-        return false;
-    }
-    if rings.len() < count {
-        return false;
-    }
-    rings[count - 1] == n
+    node_count(n) <= parts.len()
+        && n <= edges.len()
+        && k < n
+        && 0 < count
+        && count <= rings.len()
+        && rings[count - 1] == n
 }
 
 /// The way to place k of the edge list: the nodes on the way down to it, root first, and the corners at which the edges of the last of
-/// them, a leaf, end. On sound tables the nodes are just those whose parts hold the place, on others those on whose side it lies. Nothing
-/// but `path` and `stops` is written.
+/// them, a leaf, end. On sound tables the nodes are just those whose parts hold the place, on others those on whose side it lies. The
+/// tables are only read.
 ///
 /// Refused with 15 (`Unsound`) where a number leads outside its table, the path would have more than 18 nodes, there is no place k, the
-/// last ring does not end at the last corner, or a table is too short: never on sound tables that have a place k, if there is room. A
-/// `path` of less than 18 nodes or `stops` of less than 8 corners get 15 on sound tables too. Both are the caller's working space: at most
-/// the first 18 and the first 8 numbers of them change, and none where a table or one of the two is too short.
+/// last ring does not end at the last corner, or a table is too short: never on sound tables that have a place k.
 pub fn find_way(
-    path: &mut [usize],
-    stops: &mut [usize],
     rings: &[usize],
     parts: &[[usize; 3]],
     edges: &[usize],
     n: usize,
     count: usize,
     k: usize,
-) -> Way
-    ensures { WaySays n count rings.now parts.now edges.now k path.old stops.old path.new stops.new result }
+) -> Result<Way, Unsound>
+    ensures { WaySays n count rings.now parts.now edges.now k result }
 {
-    if !lent_enough(path.len(), stops.len(), rings, parts, edges, n, count, k) {
-        return Way::Unsound;
+    if !lent_enough(rings, parts, edges, n, count, k) {
+        return Err(Unsound);
     }
-    match path_to(path, parts, n, node_count(n), k) {
-        Way::Unsound => Way::Unsound,
-        Way::At(depth) => {
-            let leaf = path[depth - 1];
-            let first = parts[leaf][0];
-            let size = parts[leaf][1];
-            if !put_stops(stops, rings, edges, n, count, first, size) {
-                return Way::Unsound;
-            }
-            Way::At(depth)
-        }
-    }
+    let mut way = path_to(parts, n, node_count(n), k)?;
+    let [first, size, _] = parts[way.path[way.depth - 1]];
+    way.stops = stops_of(rings, edges, n, count, first, size)?;
+    Ok(way)
 }
 
 // The box of two corners.
@@ -233,10 +184,8 @@ fn leaf_box(
         return Rect::empty();
     }
     let mut b = span(corners, edges[first], stops[0]);
-    let mut j: usize = 1;
-    while j < size {
+    for j in 1..size {
         b = b.union(span(corners, edges[first + j], stops[j]));
-        j += 1;
     }
     b
 }
@@ -256,8 +205,7 @@ fn fit_leaf(
     requires spans { Spans n edges.now stops.now (first_at parts.now leaf) (count_at parts.now leaf) }
     ensures { boxes.new ≡ leaf_fitted corners.now boxes.old parts.now edges.now stops.now leaf }
 {
-    let first = parts[leaf][0];
-    let size = parts[leaf][1];
+    let [first, size, _] = parts[leaf];
     let b = leaf_box(corners, edges, stops, n, first, size);
     put_rect(boxes, leaf, b);
 }
@@ -273,7 +221,7 @@ fn fit_cut(boxes: &mut [[i64; 4]], parts: &[[usize; 3]], p: usize)
     put_rect(boxes, p, left.union(right));
 }
 
-/// Makes the boxes on a path anew, the leaf's round its edges first, then each node's above it round its children's, the root's last, so
+/// Makes the boxes on the path of a way anew, the leaf's round its edges first, then each node's above it round its children's, the root's last, so
 /// that boxes narrow as well as widen: on a path that `find_way` found in an index that was sound, each is the smallest again where the
 /// boxes off the path are. No other box is written, and nothing is refused: `find_way` has tested all that is read, but for the lengths
 /// of `corners` and `boxes`.
@@ -282,19 +230,16 @@ pub fn refit(
     boxes: &mut [[i64; 4]],
     parts: &[[usize; 3]],
     edges: &[usize],
-    path: &[usize],
-    stops: &[usize],
+    way: &Way,
     n: usize,
-    depth: usize,
 )
     requires n_in_bounds { (2 * n ≤ length corners.now) × (node_count n ≤ length boxes.old) }
-    requires fine { Fine n parts.now edges.now path.now stops.now depth }
-    ensures { Refit n corners.now boxes.old parts.now edges.now path.now stops.now depth boxes.new }
+    requires fine { Fine n parts.now edges.now way.now.path way.now.stops way.now.depth }
+    ensures { Refit n corners.now boxes.old parts.now edges.now way.now.path way.now.stops way.now.depth boxes.new }
 {
-    let mut k = depth - 1;
-    fit_leaf(corners, boxes, parts, edges, stops, n, path[k]);
-    while 0 < k {
-        k -= 1;
-        fit_cut(boxes, parts, path[k]);
+    let above = way.depth - 1;
+    fit_leaf(corners, boxes, parts, edges, &way.stops, n, way.path[above]);
+    for k in (0..above).rev() {
+        fit_cut(boxes, parts, way.path[k]);
     }
 }

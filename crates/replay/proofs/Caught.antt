@@ -1,4 +1,5 @@
 -- Wrong replays that the contract rules out, whatever their code is. Assumes nothing.
+use Rattle.std.specs.Prelude.{Err}
 use mathlib.Core.Path.{◌≡◌, sym, ap, ◌∙◌}
 use mathlib.Core.Bool.{Bool, true, false, cond}
 use mathlib.Core.List.{List, [], ◌++◌, map}
@@ -9,28 +10,24 @@ use lib.IntN.{ℤ}
 use lib.ListN.{length, drop}
 use Rattle.rules.specs.declared.Refusal.{Refusal}
 use Rattle.rules.specs.declared.State.{State}
-use Rattle.rules.specs.declared.Verdict as Verdict
 use Rattle.rules.specs.Plans.{Plan, plan_verdict}
-use Rattle.prepare.specs.declared.Preparing as Preparing
-use Rattle.prepare.specs.declared.Preparing.TheVariants.{Ready}
-use Rattle.prepare.specs.Answers.{preparing}
+use Rattle.prepare.specs.Answers.{preparing, ready_with}
 use Rattle.prepare.specs.Tables.{room_of}
 use Rattle.model.specs.Coded.{call_of}
 use Rattle.model.specs.Model.{model_after}
 use Rattle.model.specs.Prepared.{Prepared}
 use Rattle.model.specs.Demand.{lent}
-use Rattle.replay.specs.declared.Outcome.{Outcome}
-use Rattle.replay.specs.declared.Outcome.TheVariants.{Ran, Refused, AnswersTooShort}
-use Rattle.replay.specs.Replays.{Replayed, Lent, end_state, refused_or, judged, replaying, Replays}
+use Rattle.replay.specs.Replays.{Replayed, Lent, end_state, refused_or, judged, replaying, Replays, Outcome, Ran, Refused, AnswersTooShort}
+use Rattle.rules.specs.Answering.{Accepted}
 
 module _ (plan : Plan) (before after : Lent) (calls : List (List ℤ)) (r : Outcome) (R : Replays plan before after calls r) where
   -- the answer table's 11 before the plan's 4 or 3
-  pub plan_first : (refusal : Refusal) → plan_verdict plan ≡ Verdict.TheVariants.Refused refusal → r ≡ Refused refusal
+  pub plan_first : (refusal : Refusal) → plan_verdict plan ≡ Err refusal → r ≡ Refused refusal
   unfolding replaying
   plan_first refusal e =
       R.answer ∙ ap (λ v. refused_or v (cond (ltb (length before.answers) (length calls)) AnswersTooShort (judged (preparing plan (room_of before.tables)) (end_state plan (length before.undo) calls)))) e
 
-  module _ (accepted : plan_verdict plan ≡ Verdict.TheVariants.Accepted) where
+  module _ (accepted : plan_verdict plan ≡ Accepted) where
     by_room : (few : Bool) → ltb (length before.answers) (length calls) ≡ few → r ≡ cond few AnswersTooShort (judged (preparing plan (room_of before.tables)) (end_state plan (length before.undo) calls))
     unfolding replaying
     by_room few e = R.answer ∙ (λ t. refused_or (accepted t) (cond (e t) AnswersTooShort (judged (preparing plan (room_of before.tables)) (end_state plan (length before.undo) calls))))
@@ -44,11 +41,11 @@ module _ (plan : Plan) (before after : Lent) (calls : List (List ℤ)) (r : Outc
       judged_is = by_room false (le-ltb (length before.answers) (length calls) room)
 
       -- refusal throughout: a plan that preparing takes is run, to the state that the model's stack gives
-      pub not_refused : (state : State) (nodes : ℕ) → preparing plan (room_of before.tables) ≡ Ready state nodes → r ≡ Ran (end_state plan (length before.undo) calls)
+      pub not_refused : (state : State) (nodes : ℕ) → preparing plan (room_of before.tables) ≡ ready_with state nodes → r ≡ Ran (end_state plan (length before.undo) calls)
       not_refused state nodes e = judged_is ∙ ap (λ q. judged q (end_state plan (length before.undo) calls)) e
 
       -- another number than preparing's
-      pub refusal_kept : (refusal : Refusal) → preparing plan (room_of before.tables) ≡ Preparing.TheVariants.Refused refusal → r ≡ Refused refusal
+      pub refusal_kept : (refusal : Refusal) → preparing plan (room_of before.tables) ≡ Err refusal → r ≡ Refused refusal
       refusal_kept refusal e = judged_is ∙ ap (λ q. judged q (end_state plan (length before.undo) calls)) e
 
 -- tables written before a refusal

@@ -1,4 +1,5 @@
 -- What a replay comes to: demand 3 for the plan handed in, or 12 and outside on a marked one. Assumes nothing.
+use Rattle.std.specs.Prelude.{Err, Ok}
 use mathlib.Core.Path.{◌≡◌, refl, sym, ap, ◌∙◌, subst, transport}
 use mathlib.Core.Bool.{Bool, true, false, cond, not}
 use mathlib.Core.List.{List, [], ◌∷◌, ◌++◌, map}
@@ -15,17 +16,12 @@ use Rattle.rules.specs.declared.Location.TheVariants.{Outside}
 use Rattle.rules.specs.declared.Refusal.{Refusal}
 use Rattle.rules.specs.declared.Refusal.TheVariants.{Uneven, TooMany}
 use Rattle.rules.specs.declared.State.{State}
-use Rattle.rules.specs.declared.Verdict as Verdict
-use Rattle.rules.specs.declared.Verdict.{Verdict}
 use Rattle.rules.specs.Plans.{Plan, too_many, uneven, plan_verdict, plan_in_range}
 use Rattle.rules.specs.Replies.{half_reply}
 use Rattle.rules.specs.Tables.{plan_of}
-use Rattle.prepare.specs.declared.Preparing.{Preparing}
-use Rattle.prepare.specs.declared.Preparing as Preparing
-use Rattle.prepare.specs.declared.Preparing.TheVariants.{Ready}
 use Rattle.prepare.specs.declared.Room.{Room}
 use Rattle.prepare.specs.Answers as PreparingAnswers
-use Rattle.prepare.specs.Answers.{preparing_number, preparing, with_room, state_of, short_table}
+use Rattle.prepare.specs.Answers.{preparing_number, preparing, with_room, state_of, short_table, Preparing, ready_with}
 use Rattle.prepare.specs.Tables as PreparingTables
 use Rattle.prepare.specs.Tables.{Tables, room_of}
 use Rattle.prepare.proofs.Numbers.{number_by, named, room_told}
@@ -43,10 +39,9 @@ use Rattle.model.specs.Steps.{at_depth}
 use Rattle.model.specs.Demand.{Turn, calls_of, Run, end_of, Fresh, Leaves, AsFirst, lent, marked_answer}
 use Rattle.model.proofs.Theorem.{demand}
 use Rattle.model.proofs.Marked.{marked}
-use Rattle.replay.specs.declared.Outcome.{Outcome}
-use Rattle.replay.specs.declared.Outcome.TheVariants.{Ran, Refused, AnswersTooShort}
-use Rattle.replay.specs.Replays.{Called, Followed, Replayed, ReplayedMarked, Lent, given, end_state, refused_or, judged, replaying, replay_number, replay_detail, number_due, detail_due, Left, Replays}
+use Rattle.replay.specs.Replays.{Called, Followed, Replayed, ReplayedMarked, Lent, given, end_state, refused_or, judged, replaying, replay_number, replay_detail, number_due, detail_due, Left, Replays, Outcome, Ran, Refused, AnswersTooShort}
 use Rattle.replay.proofs.Starting.{fresh, first_held, first_size}
+use Rattle.rules.specs.Answering.{Verdict, Accepted}
 
 -- ---- the model looks at no tree's ring counts
 kept_call : (plan : Plan) (room : ℕ) (m : Model) (call : Call) → model_call (kept plan) room m call ≡ model_call plan room m call
@@ -120,15 +115,15 @@ module _ (plan : Plan) (calls : List (List ℤ)) (d : Prepared) (was : List ℤ)
 -- ---- the answer in numbers
 module _ (plan : Plan) (room : Room) (lent : ℕ) (calls : List (List ℤ)) (answers : ℕ) where
   judged_number : (q : Preparing) (end : State) → replay_number (judged q end) ≡ preparing_number q
-  judged_number (Ready state nodes) end = refl
-  judged_number (Preparing.TheVariants.Refused refusal) end = refl
+  judged_number (Ok ready) end = refl
+  judged_number (Err refusal) end = refl
 
   judged_detail : (q : Preparing) (end : State) → replay_detail (judged q end) ≡ named q
-  judged_detail (Ready state nodes) end = refl
-  judged_detail (Preparing.TheVariants.Refused refusal) end = refl
+  judged_detail (Ok ready) end = refl
+  judged_detail (Err refusal) end = refl
 
   abbrev verdict : Bool → Bool → Verdict
-  verdict many odd = cond many (Verdict.TheVariants.Refused TooMany) (cond odd (Verdict.TheVariants.Refused Uneven) Verdict.TheVariants.Accepted)
+  verdict many odd = cond many (Err TooMany) (cond odd (Err Uneven) Accepted)
 
   abbrev outcome : Bool → Bool → Bool → Outcome
   outcome many odd few = refused_or (verdict many odd) (cond few AnswersTooShort (judged (PreparingAnswers.judged (verdict many odd) (with_room (state_of plan) room)) (end_state plan lent calls)))
@@ -165,13 +160,13 @@ module _ (plan : Plan) (before : Lent) (calls : List (List ℤ)) where
   }
 
   -- 4 or 3 of the plan
-  pub replay_judged : (refusal : Refusal) → plan_verdict plan ≡ Verdict.TheVariants.Refused refusal → Replays plan before before calls (Refused refusal)
+  pub replay_judged : (refusal : Refusal) → plan_verdict plan ≡ Err refusal → Replays plan before before calls (Refused refusal)
   unfolding replaying
   replay_judged refusal e =
       replays_as before (Refused refusal)
       (ap (λ v. refused_or v (cond (ltb (length before.answers) (length calls)) AnswersTooShort (judged (preparing plan (room_of before.tables)) (end_state plan (length before.undo) calls)))) (sym e)) refl
 
-  module _ (accepted : plan_verdict plan ≡ Verdict.TheVariants.Accepted) where
+  module _ (accepted : plan_verdict plan ≡ Accepted) where
     -- which test of the answer table decides, once the plan is accepted
     by_room : (few : Bool) → ltb (length before.answers) (length calls) ≡ few
         → cond few AnswersTooShort (judged (preparing plan (room_of before.tables)) (end_state plan (length before.undo) calls)) ≡ replaying plan (room_of before.tables) (length before.undo) calls (length before.answers)
@@ -188,14 +183,14 @@ module _ (plan : Plan) (before : Lent) (calls : List (List ℤ)) where
       answered q end e f = (λ t. judged (e t) (f t)) ∙ by_room false (le-ltb (length before.answers) (length calls) enough)
 
       -- preparing was refused
-      pub replay_refused : (refusal : Refusal) (after : Tables) → PreparingTables.Prepared plan before.tables after (Preparing.TheVariants.Refused refusal)
+      pub replay_refused : (refusal : Refusal) (after : Tables) → PreparingTables.Prepared plan before.tables after (Err refusal)
           → Replays plan before (record { tables = after; undo = before.undo; answers = before.answers }) calls (Refused refusal)
       replay_refused refusal after P =
-          replays_as (record { tables = after; undo = before.undo; answers = before.answers }) (Refused refusal) (answered (Preparing.TheVariants.Refused refusal) (end_state plan (length before.undo) calls) P.answer refl)
+          replays_as (record { tables = after; undo = before.undo; answers = before.answers }) (Refused refusal) (answered (Err refusal) (end_state plan (length before.undo) calls) P.answer refl)
           (λ t. record { tables = P.tables t; undo = before.undo; answers = before.answers })
 
       -- the calls were run
-      module _ (first : Tables) (state : State) (nodes : ℕ) (P : PreparingTables.Prepared plan before.tables first (Ready state nodes)) (after : Lent) (end : State)
+      module _ (first : Tables) (state : State) (nodes : ℕ) (P : PreparingTables.Prepared plan before.tables first (ready_with state nodes)) (after : Lent) (end : State)
           (r : Called calls (given state first before.undo) before.answers (given end after.tables after.undo) after.answers) where
         is : state ≡ state_of plan
         is = state_is plan before.tables first state nodes P
@@ -219,11 +214,11 @@ module _ (plan : Plan) (before : Lent) (calls : List (List ℤ)) where
 
         pub replay_ran : Replays plan before after calls (Ran end)
         replay_ran =
-            replays_as after (Ran end) (answered (Ready state nodes) end P.answer end_is)
+            replays_as after (Ran end) (answered (ready_with state nodes) end P.answer end_is)
             (record {
               first = first;
               nodes = nodes;
-              prepared = subst (λ (s : State). PreparingTables.Prepared plan before.tables first (Ready s nodes)) is P;
+              prepared = subst (λ (s : State). PreparingTables.Prepared plan before.tables first (ready_with s nodes)) is P;
               near = λ e. subst (λ (s : State). Replayed plan calls (given s first before.undo) before.answers (given end after.tables after.undo) after.answers) is (near e);
               stray = λ e. subst (λ (s : State). ReplayedMarked calls (given s first before.undo) before.answers (given end after.tables after.undo) after.answers) is (stray e);
             })

@@ -9,15 +9,15 @@ use lib.IntN.{ℤ}
 use lib.ListN.{length}
 use Rattle.rules.specs.declared.State.{State}
 use Rattle.rules.specs.Plans.{Plan, plan_in_range}
-use Rattle.prepare.specs.declared.Preparing.TheVariants.{Ready}
 use Rattle.prepare.specs.Tables.{Tables, Prepared}
 use Rattle.prepare.proofs.Holding.{corners_even, kept}
 use Rattle.prepare.proofs.Readiness.{accepted, state_is, held, near_unmarked, plan_sound, index_sound}
 use Rattle.model.specs.Prepared.{plan_held}
 use Rattle.model.specs.Demand.{Fresh}
 use Rattle.replay.specs.Replays.{given}
+use Rattle.prepare.specs.Answers.{ready_with}
 
-module _ (plan : Plan) (before first : Tables) (state : State) (nodes : ℕ) (P : Prepared plan before first (Ready state nodes)) (undo : List (List ℤ)) where
+module _ (plan : Plan) (before first : Tables) (state : State) (nodes : ℕ) (P : Prepared plan before first (ready_with state nodes)) (undo : List (List ℤ)) where
   nothing : state.undo_depth ≡ 0
   nothing = ap (λ (s : State). s.undo_depth) (state_is plan before first state nodes P)
 

@@ -1,15 +1,12 @@
 -- What a replay promises: a plan prepared, and a coded list of calls run on it (demand 3, over code that runs).
-use Rattle.std.specs.Prelude.{◌≡◌, true, false, cond, List, [], ◌++◌, map, ℕ, eqb, ltb, ℤ, length, drop}
+use Rattle.std.specs.Prelude.{◌≡◌, true, false, cond, List, [], ◌++◌, map, ℕ, eqb, ltb, ℤ, length, drop, Result, Err, Ok}
+use Rattle.rules.specs.declared.Refusal.{Refusal}
 use Rattle.rules.specs.declared.State.{State}
-use Rattle.rules.specs.declared.Verdict as Verdict
-use Rattle.rules.specs.declared.Verdict.{Verdict}
 use Rattle.rules.specs.Numbers.{refusal_number, refusal_detail}
 use Rattle.rules.specs.Plans.{Plan, too_many, uneven, plan_verdict, plan_in_range}
-use Rattle.prepare.specs.declared.Preparing.{Preparing}
-use Rattle.prepare.specs.declared.Preparing as Preparing
-use Rattle.prepare.specs.declared.Preparing.TheVariants.{Ready}
 use Rattle.prepare.specs.declared.Room.{Room}
-use Rattle.prepare.specs.Answers.{preparing, state_of, short_table}
+use Rattle.replay.specs.declared.ReplayRefusal.{ReplayRefusal}
+use Rattle.prepare.specs.Answers.{preparing, state_of, short_table, Preparing, ready_with}
 use Rattle.prepare.specs.Tables as PreparingTables
 use Rattle.prepare.specs.Tables.{Tables, room_of}
 use Rattle.model.specs.declared.Call.{Call}
@@ -19,8 +16,20 @@ use Rattle.model.specs.Model.{model_answers, model_after}
 use Rattle.model.specs.Prepared.{Prepared, prepared_of, Sound}
 use Rattle.model.specs.Steps.{at_depth}
 use Rattle.model.specs.Demand.{Turn, calls_of, answers_of, Run, end_of, Leaves, AsFirst, Demand, lent, marked_answer}
-use Rattle.replay.specs.declared.Outcome.{Outcome}
-use Rattle.replay.specs.declared.Outcome.TheVariants.{Ran, Refused, AnswersTooShort}
+use Rattle.rules.specs.Answering.{Verdict, Accepted}
+
+-- what a replay answers: the calls were run and this state goes with the tables, or why not
+abbrev pub Outcome : Type 0
+Outcome = Result State ReplayRefusal
+
+pattern abbrev pub Ran : State → Outcome
+Ran state = Ok state
+
+pattern abbrev pub Refused : Refusal → Outcome
+Refused refusal = Err (ReplayRefusal.Plan refusal)
+
+pattern abbrev pub AnswersTooShort : Outcome
+AnswersTooShort = Err ReplayRefusal.AnswersTooShort
 
 -- ---- a list of coded calls
 
@@ -71,13 +80,13 @@ end_state plan lent calls = cond (plan_in_range plan) (at_depth (state_of plan) 
 
 -- 4 and 3 of the plan come first
 abbrev pub refused_or : Verdict → Outcome → Outcome
-refused_or Verdict.TheVariants.Accepted other = other
-refused_or (Verdict.TheVariants.Refused refusal) other = Refused refusal
+refused_or Accepted other = other
+refused_or (Err refusal) other = Refused refusal
 
 -- what is answered by what preparing answers
 abbrev pub judged : Preparing → State → Outcome
-judged (Ready state nodes) end = Ran end
-judged (Preparing.TheVariants.Refused refusal) end = Refused refusal
+judged (Ok ready) end = Ran end
+judged (Err refusal) end = Refused refusal
 
 -- 4, then 3; 11 where the answer table has fewer places than there are calls; 11 of a table that preparing needs; else the state at the end
 unfoldable pub replaying : Plan → Room → ℕ → List (List ℤ) → ℕ → Outcome
@@ -106,7 +115,7 @@ detail_due plan room calls answers = cond (too_many plan) 0 (cond (uneven plan) 
 pub record Ended (plan : Plan) (before after : Lent) (calls : List (List ℤ)) (state : State) : Type 0 where
   pub first : Tables
   pub nodes : ℕ
-  pub prepared : PreparingTables.Prepared plan before.tables first (Ready (state_of plan) nodes)
+  pub prepared : PreparingTables.Prepared plan before.tables first (ready_with (state_of plan) nodes)
   pub near : plan_in_range plan ≡ true → Replayed plan calls (given (state_of plan) first before.undo) before.answers (given state after.tables after.undo) after.answers
   pub stray : plan_in_range plan ≡ false → ReplayedMarked calls (given (state_of plan) first before.undo) before.answers (given state after.tables after.undo) after.answers
 

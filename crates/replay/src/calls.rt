@@ -3,24 +3,48 @@ ghost use Rattle.std.specs.Prelude.{◌≡◌, ◌≤◌, length};
 ghost use Rattle.model.specs.Numbers.{answer_of};
 ghost use Rattle.model.specs.Prepared.{prepared_of};
 ghost use Rattle.model.specs.Steps.{Step};
+ghost use Rattle.corrections.specs.Corrected.{answered, state_after};
 ghost use Rattle.replay.specs.Replays.{Called};
 
-use corrections::{Corrected, move_corner, undo as take_back};
-use model::{Call, answer_number, decode_call, reply_answer};
-use prepared::locate::{locate, locate_doubled};
-use rules::{Reply, State};
+use corrections::{move_corner, undo as take_back};
+use model::{Answer, Call, answer_number, decode_call, reply_answer};
+use prepared::locate::locate;
+use rules::{Refusal, Reply, Spot, State};
+
+/// What a call answers, and the state that goes with the tables from now on.
+#[derive(Clone, Copy)]
+pub struct Done {
+    pub answer: Answer,
+    pub state: State,
+}
 
 // A look-up leaves the state as it was.
-fn looked_up(state: State, reply: Reply) -> Corrected
+fn looked_up(state: State, reply: Reply) -> Done
     ensures { result ≡ record { answer = answer_of reply; state = state } }
 {
-    Corrected {
+    Done {
         answer: reply_answer(reply),
-        state: state,
+        state,
     }
 }
 
-/// Runs one call: `move_corner`, `undo`, `locate` or `locate_doubled`, with its refusals. What is returned is its answer and the state that
+// A correction leaves its state where it is accepted, and the state as it was where it is refused.
+fn corrected(state: State, correction: Result<State, Refusal>) -> Done
+    ensures { result ≡ record { answer = answered correction; state = state_after state correction } }
+{
+    match correction {
+        Ok(next) => Done {
+            answer: Answer::Accepted,
+            state: next,
+        },
+        Err(refusal) => Done {
+            answer: Answer::Refused(refusal),
+            state,
+        },
+    }
+}
+
+/// Runs one call: `move_corner`, `undo`, or `locate` on either grid, with its refusals. What is returned is its answer and the state that
 /// goes with the tables from now on.
 pub fn run_call(
     state: State,
@@ -32,23 +56,45 @@ pub fn run_call(
     edges: &[usize],
     undo: &mut [[i64; 3]],
     call: Call,
-) -> Corrected
+) -> Done
     ensures { Step call (prepared_of state corners.old rings.now polygons.now boxes.old parts.now edges.now undo.old) result.answer (prepared_of result.state corners.new rings.now polygons.now boxes.new parts.now edges.now undo.new) }
 {
     match call {
-        Call::Move(corner, place) => {
+        Call::Move(corner, place) => corrected(
+            state,
             move_corner(
                 state, corners, rings, boxes, parts, edges, undo, corner, place,
-            )
-        }
-        Call::Undo => take_back(state, corners, rings, boxes, parts, edges, undo),
+            ),
+        ),
+        Call::Undo => corrected(
+            state,
+            take_back(state, corners, rings, boxes, parts, edges, undo),
+        ),
         Call::Locate(p) => looked_up(
             state,
-            locate(state, corners, rings, polygons, boxes, parts, edges, p),
+            locate(
+                state,
+                corners,
+                rings,
+                polygons,
+                boxes,
+                parts,
+                edges,
+                Spot::OnGrid(p),
+            ),
         ),
         Call::LocateDoubled(p) => looked_up(
             state,
-            locate_doubled(state, corners, rings, polygons, boxes, parts, edges, p),
+            locate(
+                state,
+                corners,
+                rings,
+                polygons,
+                boxes,
+                parts,
+                edges,
+                Spot::Doubled(p),
+            ),
         ),
     }
 }
@@ -70,17 +116,13 @@ pub(crate) fn run_calls(
     ensures { Called calls.now (prepared_of state corners.old rings.now polygons.now boxes.old parts.now edges.now undo.old) answers.old (prepared_of result corners.new rings.now polygons.now boxes.new parts.now edges.now undo.new) answers.new }
 {
     let mut now = state;
-    let mut k: usize = 0;
-    while k < calls.len() {
-        let call = decode_call(calls[k]);
+    for (k, &row) in calls.iter().enumerate() {
+        let call = decode_call(row);
         let done = run_call(
             now, corners, rings, polygons, boxes, parts, edges, undo, call,
         );
-        let answer = done.answer;
-        answers[k] = answer_number(answer);
-        let left = done.state;
-        now = left;
-        k += 1;
+        answers[k] = answer_number(done.answer);
+        now = done.state;
     }
     now
 }

@@ -2,24 +2,32 @@
 // What is promised is demand 3 of document 01, for code that runs.
 #![tactic(auto)]
 
+ghost use Rattle.std.specs.Prelude.{◌≡◌};
+ghost use Rattle.replay.specs.declared.ReplayRefusal.TheVariants.{Plan};
 ghost use Rattle.replay.specs.Replays.{Replays};
 
 pub mod calls;
 
 use calls::run_calls;
 use plans::judge;
-use prepare::{Preparing, prepare};
-use rules::{Kind, Refusal, State, Verdict};
+use prepare::prepare;
+use rules::{Kind, Refusal, State};
 
-/// What a replay answers.
+/// Why no call was run.
 #[derive(Clone, Copy)]
-pub enum Outcome {
-    /// The calls were run, and the state goes with the tables.
-    Ran(State),
-    /// Preparing was refused with 4, 3, or 11 and its table.
-    Refused(Refusal),
+pub enum ReplayRefusal {
+    /// 4, 3, or 11 and its table: the plan cannot be prepared.
+    Plan(Refusal),
     /// 11: the answer table has fewer places than there are calls.
     AnswersTooShort,
+}
+
+impl From<Refusal> for ReplayRefusal {
+    ghost from_gives = { λ refusal given. given ≡ Plan refusal };
+
+    fn from(refusal: Refusal) -> ReplayRefusal {
+        ReplayRefusal::Plan(refusal)
+    }
 }
 
 /// Prepares a plan and runs a list of calls on it.
@@ -44,16 +52,14 @@ pub fn replay(
     undo: &mut [[i64; 3]],
     calls: &[[i64; 4]],
     answers: &mut [i64],
-) -> Outcome
+) -> Result<State, ReplayRefusal>
     ensures { Replays (record { kind = kind; coordinates = coordinates.now; lengths = lengths.now; counts = counts.now }) (record { tables = record { corners = corners.old; rings = rings.old; polygons = polygons.old; boxes = boxes.old; parts = parts.old; edges = edges.old }; undo = undo.old; answers = answers.old }) (record { tables = record { corners = corners.new; rings = rings.new; polygons = polygons.new; boxes = boxes.new; parts = parts.new; edges = edges.new }; undo = undo.new; answers = answers.new }) calls.now result }
 {
-    if let Verdict::Refused(refusal) = judge(kind, coordinates, lengths, counts) {
-        return Outcome::Refused(refusal);
-    }
+    judge(kind, coordinates, lengths, counts)?;
     if answers.len() < calls.len() {
-        return Outcome::AnswersTooShort;
+        return Err(ReplayRefusal::AnswersTooShort);
     }
-    match prepare(
+    let ready = prepare(
         kind,
         coordinates,
         lengths,
@@ -64,10 +70,17 @@ pub fn replay(
         boxes,
         parts,
         edges,
-    ) {
-        Preparing::Refused(refusal) => Outcome::Refused(refusal),
-        Preparing::Ready(state, _) => Outcome::Ran(run_calls(
-            state, corners, rings, polygons, boxes, parts, edges, undo, calls, answers,
-        )),
-    }
+    )?;
+    Ok(run_calls(
+        ready.state,
+        corners,
+        rings,
+        polygons,
+        boxes,
+        parts,
+        edges,
+        undo,
+        calls,
+        answers,
+    ))
 }

@@ -1,25 +1,22 @@
 -- How an edge counts, as the code finds it: the heights first, the turn only where the edge passes the point's height. Assumes nothing.
 use mathlib.Core.Path.{◌≡◌, refl, sym, ◌∙◌, ap}
 use mathlib.Core.Bool.{Bool, true, false, not, cond, ◌&&◌, ◌||◌}
-use Prim.Native.Nat.{zero, suc, ◌≤◌}
+use Prim.Native.Nat.{◌≤◌}
 use lib.Dec.{T, lit≤}
-use lib.IntN.{ℤ, pos, negsuc, nat_abs, ◌-ℤ◌}
+use lib.IntN.{pos, negsuc, nat_abs, ◌-ℤ◌}
 use lib.Signed.{le_z, lt_z}
 use Rattle.integers.specs.declared.Sign.{Sign}
 use Rattle.integers.specs.declared.Sign.TheVariants.{Negative, Zero, Positive}
 use Rattle.integers.specs.Signs.{sign_of, is_negative, is_positive}
-use Rattle.integers.proofs.Order.{zarith}
 use Rattle.integers.proofs.Signs.{le_sign}
-use Rattle.integers.proofs.Tests.{true_T, false_T, lt_true, lt_false}
 use Rattle.geom.specs.declared.Point.{Point}
 use Rattle.predicates.specs.Turn.{orientation, on_segment}
 use Rattle.rules.specs.Edges.{edge_winding}
-use Rattle.rules.specs.Replies.{is_nonzero}
 use Rattle.rules.proofs.RaySigns.{winding_by, on_by, possible, all5, all5_at}
 use Rattle.rules.proofs.RayEdges.{winding_by_lem, on_by_lem, turn_possible}
 use Rattle.rings.specs.declared.crossings.Crossing.{Crossing}
 use Rattle.rings.specs.declared.crossings.Crossing.TheVariants.{Nothing, Up, Down, On}
-use Rattle.rings.specs.Crossings.{signed, crossing_of, is_on, is_up, is_down, weight_of, upward_of, downward_of}
+use Rattle.rings.specs.Crossings.{signed, crossing_of, is_on, weight_of, upward_of, downward_of}
 
 -- as the code finds it
 abbrev pub found : Bool → Bool → Bool → Sign → Crossing
@@ -111,33 +108,8 @@ pub weight_crossing : (a b p : Point) → on_segment a b p ≡ false → weight_
 unfolding crossing_of
 weight_crossing a b p off = ap (λ on. weight_of (cond on On (signed (sign_of (edge_winding a b p))))) off ∙ small a b p
 
--- a number is not 0 where it is below or above it
-pub not_zero : (z : ℤ) → lt_z z (pos 0) || lt_z (pos 0) z ≡ is_nonzero z
-not_zero (pos zero) = refl
-not_zero (pos (suc n)) = ap (λ t. t || lt_z (pos 0) (pos (suc n))) (lt_false (pos (suc n)) (pos 0) (omega zarith)) ∙ lt_true (pos 0) (pos (suc n)) (omega zarith)
-not_zero (negsuc n) = refl
-
 pub weight_small : (c : Crossing) → nat_abs (weight_of c) ≤ 1
 weight_small Nothing = lit≤ tt
 weight_small Up = lit≤ tt
 weight_small Down = lit≤ tt
 weight_small On = lit≤ tt
-
--- ---- what an edge adds, by two tests
-pub weight_up : (k : Crossing) → is_up k ≡ true → weight_of k ≡ pos 1
-weight_up Nothing e = absurd (true_T e)
-weight_up Up e = refl
-weight_up Down e = absurd (true_T e)
-weight_up On e = absurd (true_T e)
-
-pub weight_down : (k : Crossing) → is_down k ≡ true → weight_of k ≡ negsuc 0
-weight_down Nothing e = absurd (true_T e)
-weight_down Up e = absurd (true_T e)
-weight_down Down e = refl
-weight_down On e = absurd (true_T e)
-
-pub weight_none : (k : Crossing) → is_up k ≡ false → is_down k ≡ false → weight_of k ≡ pos 0
-weight_none Nothing e f = refl
-weight_none Up e f = absurd (false_T e)
-weight_none Down e f = absurd (false_T f)
-weight_none On e f = refl

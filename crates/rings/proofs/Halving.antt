@@ -3,19 +3,12 @@
 use mathlib.Core.Path.{◌≡◌, refl, sym, ◌∙◌, ap, ap₂, subst}
 use mathlib.Core.Bool.{Bool, true, false, not, cond, ◌||◌}
 use mathlib.Core.List.{List, [], ◌∷◌, map}
-use Prim.Native.Nat.{ℕ, suc, ◌+◌, ◌*◌, ◌<◌, ◌≤◌, ◌^◌}
-use native.Mathlib.Omega.{arith}
+use Prim.Native.Nat.{ℕ, suc, ◌+◌, ◌*◌, ◌<◌, ◌≤◌}
 use lib.IntN.{ℤ, pos, ◌+ℤ◌, ◌*ℤ◌}
-use mir.Syntax.{w64}
-use mir.Val.{SFits}
 use lib.ListN.{length}
-use Rattle.integers.proofs.Bits.{abs_fits}
 use Rattle.integers.proofs.Polynomials.{ring₂, con, ◌:+◌, ◌:*◌}
-use Rattle.integers.proofs.Sizes.{abs_add}
-use Rattle.integers.proofs.Tests.{and_true, or_none}
+use Rattle.integers.proofs.Tests.{or_none}
 use Rattle.geom.specs.declared.Point.{Point}
-use Rattle.geom.specs.Range.{within, in_range}
-use Rattle.geom.proofs.Range.{near}
 use Rattle.predicates.specs.Turn.{on_segment}
 use Rattle.integers.specs.declared.Sign.{Sign}
 use Rattle.integers.specs.declared.Sign.TheVariants.{Negative, Zero, Positive}
@@ -130,11 +123,6 @@ odd_told edges p before off = ap (λ on. parity_odd (cond on Parity.TheVariants.
     go false = refl
 
 -- ---- a corner in range, doubled
-pub in_range_parts : (corner : Point) → in_range corner ≡ true → (within (2 ^ 40) corner.x ≡ true) × (within (2 ^ 40) corner.y ≡ true)
-in_range_parts corner e = and_true (within (2 ^ 40) corner.x) (within (2 ^ 40) corner.y) e
-
-pub twice_fits : (z : ℤ) → within (2 ^ 40) z ≡ true → SFits w64 (z +ℤ z)
-twice_fits z e = abs_fits (z +ℤ z) (omega (arith, near (2 ^ 40) z e, abs_add z z))
 
 pub twice_is : (z : ℤ) → z +ℤ z ≡ pos 2 *ℤ z
 twice_is z = ring₂ (λ z t. z :+ z) (λ z t. con (pos 2) :* z) refl z z

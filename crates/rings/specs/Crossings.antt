@@ -28,18 +28,6 @@ is_on Up = false
 is_on Down = false
 is_on On = true
 
-abbrev pub is_up : Crossing → Bool
-is_up Nothing = false
-is_up Up = true
-is_up Down = false
-is_up On = false
-
-abbrev pub is_down : Crossing → Bool
-is_down Nothing = false
-is_down Up = false
-is_down Down = true
-is_down On = false
-
 abbrev pub weight_of : Crossing → ℤ
 weight_of Nothing = pos 0
 weight_of Up = pos 1

@@ -1,15 +1,14 @@
 // How an edge counts for a point (document 01, item 3).
 ghost use Rattle.std.specs.Prelude.{◌≡◌, ◌+◌, ◌<◌, ◌^◌, nat_abs, ◌+ℤ◌};
-ghost use Rattle.std.specs.Int.Signed.{le_z};
 ghost use Rattle.rules.specs.Replies.{is_nonzero};
-ghost use Rattle.rings.specs.Crossings.{crossing_of, upward_of, downward_of, is_on, is_up, is_down, weight_of};
+ghost use Rattle.rings.specs.Crossings.{crossing_of, upward_of, downward_of, is_on, weight_of};
 
 use geom::Point;
 use integers::Sign;
 use predicates::{on_segment, orient};
 
 /// How an edge meets the ray to the right of a point.
-#[derive(Clone, Copy)]
+#[derive(Clone, Copy, PartialEq, Eq)]
 pub enum Crossing {
     Nothing,
     Up,
@@ -17,8 +16,8 @@ pub enum Crossing {
     On,
 }
 
-// An edge that rises past the point's height.
-fn upward(turn: Sign) -> Crossing
+/// An edge that rises past the point's height, by the turn from it to the point.
+pub fn upward(turn: Sign) -> Crossing
     ensures { result ≡ upward_of turn }
 {
     match turn {
@@ -28,8 +27,8 @@ fn upward(turn: Sign) -> Crossing
     }
 }
 
-// An edge that falls past the point's height.
-fn downward(turn: Sign) -> Crossing
+/// An edge that falls past the point's height, by the turn from it to the point.
+pub fn downward(turn: Sign) -> Crossing
     ensures { result ≡ downward_of turn }
 {
     match turn {
@@ -39,19 +38,12 @@ fn downward(turn: Sign) -> Crossing
     }
 }
 
-// Whether a corner is no higher than the point.
-fn no_higher(corner: Point, p: Point) -> bool
-    ensures { result ≡ le_z corner.y p.y }
-{
-    corner.y <= p.y
-}
-
 /// How the edge from a to b counts for p. Most edges lie above or below the point and need no turn.
 pub fn crossing_of(a: Point, b: Point, p: Point) -> Crossing
     ensures { result ≡ crossing_of a b p }
 {
-    if no_higher(a, p) {
-        if no_higher(b, p) {
+    if a.y <= p.y {
+        if b.y <= p.y {
             if on_segment(a, b, p) {
                 return Crossing::On;
             }
@@ -59,7 +51,7 @@ pub fn crossing_of(a: Point, b: Point, p: Point) -> Crossing
         }
         return upward(orient(a, b, p));
     }
-    if no_higher(b, p) {
+    if b.y <= p.y {
         return downward(orient(a, b, p));
     }
     Crossing::Nothing
@@ -69,36 +61,7 @@ pub fn crossing_of(a: Point, b: Point, p: Point) -> Crossing
 pub fn is_on(crossing: Crossing) -> bool
     ensures { result ≡ is_on crossing }
 {
-    match crossing {
-        Crossing::Nothing => false,
-        Crossing::Up => false,
-        Crossing::Down => false,
-        Crossing::On => true,
-    }
-}
-
-// Whether the edge counts one more.
-fn is_up(crossing: Crossing) -> bool
-    ensures { result ≡ is_up crossing }
-{
-    match crossing {
-        Crossing::Nothing => false,
-        Crossing::Up => true,
-        Crossing::Down => false,
-        Crossing::On => false,
-    }
-}
-
-// Whether the edge counts one less.
-fn is_down(crossing: Crossing) -> bool
-    ensures { result ≡ is_down crossing }
-{
-    match crossing {
-        Crossing::Nothing => false,
-        Crossing::Up => false,
-        Crossing::Down => true,
-        Crossing::On => false,
-    }
+    crossing == Crossing::On
 }
 
 // What the edge adds to the winding number. Two tests are compiled to conditional moves, where one `match` of three outcomes would be
@@ -106,10 +69,10 @@ fn is_down(crossing: Crossing) -> bool
 fn weight_of(crossing: Crossing) -> i64
     ensures { result ≡ weight_of crossing }
 {
-    if is_up(crossing) {
+    if crossing == Crossing::Up {
         return 1;
     }
-    if is_down(crossing) { -1 } else { 0 }
+    if crossing == Crossing::Down { -1 } else { 0 }
 }
 
 /// The winding number with one more edge. No plan has so many edges that it would leave 64 bits.
@@ -124,5 +87,5 @@ pub fn wound(winding: i64, crossing: Crossing) -> i64
 pub fn is_nonzero(winding: i64) -> bool
     ensures { result ≡ is_nonzero winding }
 {
-    (winding < 0) | (0 < winding)
+    winding != 0
 }

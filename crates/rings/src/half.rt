@@ -10,15 +10,15 @@ use geom::Point;
 use plans::corner_at;
 
 /// How often edges are crossed: once on one of them, the count no longer matters.
-#[derive(Clone, Copy)]
+#[derive(Clone, Copy, PartialEq, Eq)]
 pub enum Parity {
     On,
     Even,
     Odd,
 }
 
-// Twice a corner in range. Any other is left as it is: no plan with such a corner has a reply that rests on it.
-fn doubled_corner(corner: Point) -> Point
+/// Twice a corner in range. Any other is left as it is: sound tables have none, and no plan with such a corner has a reply that rests on it.
+pub fn doubled_corner(corner: Point) -> Point
     ensures { result ≡ near_doubled corner }
 {
     if corner.in_range() {
@@ -30,7 +30,7 @@ fn doubled_corner(corner: Point) -> Point
     corner
 }
 
-// A parity with one more edge.
+// A parity with one more edge. In this form, an arm for each outcome, the loop of `ring_parity` is compiled with `crossing_of` in it, without a call.
 fn crossed(odd: bool, crossing: Crossing) -> bool
     ensures { result ≡ crossed_once odd crossing }
 {
@@ -62,22 +62,14 @@ fn closed_parity(odd: bool, last: Crossing) -> Parity
 pub fn parity_on(parity: Parity) -> bool
     ensures { result ≡ parity_on parity }
 {
-    match parity {
-        Parity::On => true,
-        Parity::Even => false,
-        Parity::Odd => false,
-    }
+    parity == Parity::On
 }
 
 /// Whether an odd number of edges was crossed.
 pub fn parity_odd(parity: Parity) -> bool
     ensures { result ≡ parity_odd parity }
 {
-    match parity {
-        Parity::On => false,
-        Parity::Even => false,
-        Parity::Odd => true,
-    }
+    parity == Parity::Odd
 }
 
 /// The parity with the edges of one ring more, its corners from `first` to before `end`.
@@ -91,8 +83,7 @@ pub fn ring_parity(coordinates: &[i64], first: usize, end: usize, p: Point, carr
     let start = doubled_corner(corner_at(coordinates, first));
     let mut a = start;
     let mut odd = carried;
-    let mut i = first + 1;
-    while i < end {
+    for i in first + 1..end {
         let b = doubled_corner(corner_at(coordinates, i));
         let c = crossing_of(a, b, p);
         if is_on(c) {
@@ -100,7 +91,6 @@ pub fn ring_parity(coordinates: &[i64], first: usize, end: usize, p: Point, carr
         }
         odd = crossed(odd, c);
         a = b;
-        i += 1;
     }
     closed_parity(odd, crossing_of(a, start, p))
 }

@@ -10,33 +10,21 @@ use rules::Location;
 pub fn is_outside(location: Location) -> bool
     ensures { result ≡ is_outside location }
 {
-    match location {
-        Location::Outside => true,
-        Location::Inside => false,
-        Location::OnBoundary => false,
-    }
+    location == Location::Outside
 }
 
 /// Whether the place is inside.
 pub fn is_inside(location: Location) -> bool
     ensures { result ≡ is_inside location }
 {
-    match location {
-        Location::Outside => false,
-        Location::Inside => true,
-        Location::OnBoundary => false,
-    }
+    location == Location::Inside
 }
 
 /// Whether the place is on the boundary.
 pub fn is_boundary(location: Location) -> bool
     ensures { result ≡ is_boundary location }
 {
-    match location {
-        Location::Outside => false,
-        Location::Inside => false,
-        Location::OnBoundary => true,
-    }
+    location == Location::OnBoundary
 }
 
 /// What a hole decides for its polygon, given where the point lies in the hole.
@@ -54,14 +42,10 @@ pub fn through_hole(location: Location) -> Location
 pub fn stronger(a: Location, b: Location) -> Location
     ensures { result ≡ stronger_of a b }
 {
-    match a {
-        Location::Outside => b,
-        Location::Inside => Location::Inside,
-        Location::OnBoundary => match b {
-            Location::Outside => Location::OnBoundary,
-            Location::Inside => Location::Inside,
-            Location::OnBoundary => Location::OnBoundary,
-        },
+    match (a, b) {
+        (Location::Outside, place) => place,
+        (Location::Inside, _) | (_, Location::Inside) => Location::Inside,
+        (Location::OnBoundary, _) => Location::OnBoundary,
     }
 }
 
@@ -69,11 +53,7 @@ pub fn stronger(a: Location, b: Location) -> Location
 pub fn flipped(odd: bool, location: Location) -> bool
     ensures { result ≡ flipped_by odd location }
 {
-    match location {
-        Location::Outside => odd,
-        Location::Inside => !odd,
-        Location::OnBoundary => odd,
-    }
+    odd != (location == Location::Inside)
 }
 
 /// An odd number of times round is inside.

@@ -36,8 +36,7 @@ pub fn ring_reply(coordinates: &[i64], first: usize, end: usize, p: Point) -> Lo
     let start = corner_at(coordinates, first);
     let mut a = start;
     let mut winding: i64 = 0;
-    let mut i = first + 1;
-    while i < end {
+    for i in first + 1..end {
         let b = corner_at(coordinates, i);
         let c = crossing_of(a, b, p);
         if is_on(c) {
@@ -45,7 +44,6 @@ pub fn ring_reply(coordinates: &[i64], first: usize, end: usize, p: Point) -> Lo
         }
         winding = wound(winding, c);
         a = b;
-        i += 1;
     }
     closed(winding, crossing_of(a, start, p))
 }

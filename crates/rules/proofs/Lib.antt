@@ -1,3 +1,4 @@
+pub mod Library
 pub mod Cases
 pub mod Corners
 pub mod Flags

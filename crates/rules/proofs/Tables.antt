@@ -12,11 +12,11 @@ use lib.Seq.{take-length, take_all}
 use Rattle.integers.proofs.Tests.{or_false}
 use Rattle.rules.specs.declared.Kind.TheVariants.{Polygons, Tree}
 use Rattle.rules.specs.declared.State.{State}
-use Rattle.rules.specs.declared.Verdict.TheVariants.{Accepted}
 use Rattle.rules.specs.Lists.{is_odd}
 use Rattle.rules.specs.Plans.{Plan, corner_count, uneven, plan_verdict, plan_in_range}
 use Rattle.rules.specs.Tables.{ends_from, lengths_from, plan_of, PlanSound}
 use Rattle.rules.proofs.Verdicts.{accepted_passes}
+use Rattle.rules.specs.Answering.{Accepted}
 
 -- ---- ends and lengths
 pub ends_length : (start : ℕ) (lengths : List ℕ) → length (ends_from start lengths) ≡ length lengths

@@ -1,4 +1,5 @@
 -- Refusals 4 and 3 of a plan: 4 comes first, and each comes under its condition alone. Assumes nothing.
+use Rattle.std.specs.Prelude.{Ok, Err}
 use mathlib.Core.Path.{◌≡◌, refl, sym, ◌∙◌, ap, ap₂, subst}
 use mathlib.Core.Bool.{Bool, true, false, not, cond, ◌&&◌, ◌||◌}
 use Prim.Native.Nat.{◌≤◌, ◌^◌}
@@ -8,20 +9,19 @@ use lib.Dec.{T, eqb, ltb}
 use lib.ListN.{length}
 use Rattle.integers.proofs.Tests.{not_false, or_false}
 use Rattle.rules.specs.declared.Refusal.TheVariants.{Uneven, TooMany}
-use Rattle.rules.specs.declared.Verdict.{Verdict}
-use Rattle.rules.specs.declared.Verdict.TheVariants.{Accepted, Refused}
 use Rattle.rules.specs.Lists.{total, is_odd}
 use Rattle.rules.specs.Numbers.{verdict_number}
 use Rattle.rules.specs.Plans.{Plan, corner_count, is_list, too_many, uneven, plan_verdict, Judged}
+use Rattle.rules.specs.Answering.{Verdict, Accepted}
 
-pub verdict_at : (plan : Plan) (many odd : Bool) → too_many plan ≡ many → uneven plan ≡ odd → plan_verdict plan ≡ cond many (Refused TooMany) (cond odd (Refused Uneven) Accepted)
+pub verdict_at : (plan : Plan) (many odd : Bool) → too_many plan ≡ many → uneven plan ≡ odd → plan_verdict plan ≡ cond many (Err TooMany) (cond odd (Err Uneven) Accepted)
 unfolding plan_verdict
-verdict_at plan many odd e f = ap₂ (λ m o. cond m (Refused TooMany) (cond o (Refused Uneven) Accepted)) e f
+verdict_at plan many odd e f = ap₂ (λ m o. cond m (Err TooMany) (cond o (Err Uneven) Accepted)) e f
 
-pub too_many_first : (plan : Plan) → too_many plan ≡ true → plan_verdict plan ≡ Refused TooMany
+pub too_many_first : (plan : Plan) → too_many plan ≡ true → plan_verdict plan ≡ Err TooMany
 too_many_first plan e = verdict_at plan true (uneven plan) e refl
 
-pub uneven_second : (plan : Plan) → too_many plan ≡ false → uneven plan ≡ true → plan_verdict plan ≡ Refused Uneven
+pub uneven_second : (plan : Plan) → too_many plan ≡ false → uneven plan ≡ true → plan_verdict plan ≡ Err Uneven
 uneven_second plan e f = verdict_at plan false true e f
 
 pub accepted_else : (plan : Plan) → too_many plan ≡ false → uneven plan ≡ false → plan_verdict plan ≡ Accepted
@@ -32,10 +32,10 @@ pub accepted_passes : (plan : Plan) → plan_verdict plan ≡ Accepted → (too_
 accepted_passes plan e = go (too_many plan) (uneven plan) (sym (verdict_at plan (too_many plan) (uneven plan) refl refl) ∙ e)
   where
     is_accepted : Verdict → Bool
-    is_accepted Accepted = true
-    is_accepted (Refused r) = false
+    is_accepted (Ok _) = true
+    is_accepted (Err r) = false
 
-    go : (many odd : Bool) → cond many (Refused TooMany) (cond odd (Refused Uneven) Accepted) ≡ Accepted → (many ≡ false) × (odd ≡ false)
+    go : (many odd : Bool) → cond many (Err TooMany) (cond odd (Err Uneven) Accepted) ≡ Accepted → (many ≡ false) × (odd ≡ false)
     go true odd h = absurd (subst T (sym (ap is_accepted h)) tt)
     go false true h = absurd (subst T (sym (ap is_accepted h)) tt)
     go false false h = (refl, refl)
@@ -78,7 +78,7 @@ pub numbers : (plan : Plan) → verdict_number (plan_verdict plan) ≡ cond (too
 unfolding plan_verdict
 numbers plan = go (too_many plan) (uneven plan)
   where
-    go : (many odd : Bool) → verdict_number (cond many (Refused TooMany) (cond odd (Refused Uneven) Accepted)) ≡ cond many 4 (cond odd 3 0)
+    go : (many odd : Bool) → verdict_number (cond many (Err TooMany) (cond odd (Err Uneven) Accepted)) ≡ cond many 4 (cond odd 3 0)
     go true odd = refl
     go false true = refl
     go false false = refl

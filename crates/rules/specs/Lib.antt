@@ -1,3 +1,4 @@
+pub mod Answering
 pub mod Numbers
 pub mod Lists
 pub mod Edges
@@ -7,3 +8,4 @@ pub mod Tables
 pub mod Nodes
 pub mod Rays
 pub mod Cases
+pub mod Spots

@@ -1,16 +1,12 @@
 -- The number of each place, table and refusal (document 01, item 11, "From the input", "From the state"; document 02's requests).
-use Rattle.std.specs.Prelude.{ℕ, ℤ, pos, neg_ℤ}
+use Rattle.std.specs.Prelude.{ℕ, ℤ, pos, neg_ℤ, Err, Ok}
 use Rattle.rules.specs.declared.Location.{Location}
 use Rattle.rules.specs.declared.Location.TheVariants.{Outside, Inside, OnBoundary}
 use Rattle.rules.specs.declared.Table.{Table}
 use Rattle.rules.specs.declared.Table.TheVariants.{Corners, Rings, Polygons, Nodes, Edges, Output}
 use Rattle.rules.specs.declared.Refusal.{Refusal}
 use Rattle.rules.specs.declared.Refusal.TheVariants.{TextTooLong, BadLine, Uneven, TooMany, NoSuchCorner, PlaceOutOfRange, TableTooShort, PlanOutOfRange, UndoFull, NothingToUndo, Unsound, OffGrammar, Unclosed}
-use Rattle.rules.specs.declared.Reply.{Reply}
-use Rattle.rules.specs.declared.Reply.TheVariants.{At, Refused}
-use Rattle.rules.specs.declared.Verdict.{Verdict}
-use Rattle.rules.specs.declared.Verdict.TheVariants.{Accepted}
-use Rattle.rules.specs.declared.Verdict as Verdict
+use Rattle.rules.specs.Answering.{Reply, Verdict}
 
 -- item 11
 abbrev pub location_number : Location → ℕ
@@ -62,10 +58,10 @@ refusal_detail Unclosed = 0
 
 -- item 11: a reply as one signed number, the place or minus the refusal
 abbrev pub reply_number : Reply → ℤ
-reply_number (At location) = pos (location_number location)
-reply_number (Refused refusal) = neg_ℤ (pos (refusal_number refusal))
+reply_number (Ok location) = pos (location_number location)
+reply_number (Err refusal) = neg_ℤ (pos (refusal_number refusal))
 
 -- 0 where nothing is refused, or the refusal
 abbrev pub verdict_number : Verdict → ℕ
-verdict_number Accepted = 0
-verdict_number (Verdict.TheVariants.Refused refusal) = refusal_number refusal
+verdict_number (Ok _) = 0
+verdict_number (Err refusal) = refusal_number refusal

@@ -1,5 +1,5 @@
 -- A plan, its refusals 4 and 3, and its replies under the range rule (document 01, items 4, 6 and 7, "From the input").
-use Rattle.std.specs.Prelude.{◌≡◌, Bool, true, false, not, cond, ◌&&◌, ◌||◌, List, [], ◌∷◌, ℕ, ◌+◌, ◌*◌, ◌/◌, eqb, ltb, ℤ, pos, length, get_or}
+use Rattle.std.specs.Prelude.{◌≡◌, Bool, true, false, not, cond, ◌&&◌, ◌||◌, List, [], ◌∷◌, ℕ, ◌+◌, ◌*◌, ◌/◌, eqb, ltb, ℤ, pos, length, get_or, Err, Ok}
 use Rattle.geom.specs.declared.Point.{Point}
 use Rattle.geom.specs.Range.{in_range, in_doubled_range}
 use Rattle.rules.specs.declared.Kind.{Kind}
@@ -7,14 +7,10 @@ use Rattle.rules.specs.declared.Kind.TheVariants.{Polygons, Tree}
 use Rattle.rules.specs.declared.Location.{Location}
 use Rattle.rules.specs.declared.Location.TheVariants.{Outside}
 use Rattle.rules.specs.declared.Refusal.TheVariants.{Uneven, TooMany}
-use Rattle.rules.specs.declared.Reply.{Reply}
-use Rattle.rules.specs.declared.Reply.TheVariants.{At}
-use Rattle.rules.specs.declared.Reply as Reply
-use Rattle.rules.specs.declared.Verdict.{Verdict}
-use Rattle.rules.specs.declared.Verdict.TheVariants.{Accepted, Refused}
 use Rattle.rules.specs.Lists.{any_of, total, is_odd, parts_of}
 use Rattle.rules.specs.Numbers.{verdict_number}
 use Rattle.rules.specs.Replies.{list_reply, tree_reply, half_reply}
+use Rattle.rules.specs.Answering.{Reply, Verdict, Accepted}
 
 -- a plan as it is handed in: coordinates x, y, x, y, .., the length of each ring, and how many rings each polygon has
 pub record Plan : Type 0 where
@@ -68,7 +64,7 @@ uneven plan =
 
 -- 4 is tested before 3
 unfoldable pub plan_verdict : Plan → Verdict
-plan_verdict plan = cond (too_many plan) (Refused TooMany) (cond (uneven plan) (Refused Uneven) Accepted)
+plan_verdict plan = cond (too_many plan) (Err TooMany) (cond (uneven plan) (Err Uneven) Accepted)
 
 -- the verdict, and its number by the same conditions
 pub record Judged (plan : Plan) (r : Verdict) : Type 0 where
@@ -98,5 +94,5 @@ plan_half_reply plan p = cond (plan_in_range plan && in_doubled_range p) (half_r
 
 -- what a look-up in a plan just handed in answers: its refusal, or the reply
 abbrev pub answer : Verdict → Location → Reply
-answer Accepted location = At location
-answer (Refused refusal) location = Reply.TheVariants.Refused refusal
+answer (Ok _) location = Ok location
+answer (Err refusal) location = Err refusal

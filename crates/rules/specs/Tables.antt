@@ -4,8 +4,8 @@ use Rattle.std.specs.Prelude.{◌≡◌, true, List, [], ◌∷◌, ℕ, ◌+◌
 use Rattle.rules.specs.declared.Kind.{Kind}
 use Rattle.rules.specs.declared.Kind.TheVariants.{Polygons, Tree}
 use Rattle.rules.specs.declared.State.{State}
-use Rattle.rules.specs.declared.Verdict.TheVariants.{Accepted}
 use Rattle.rules.specs.Plans.{Plan, plan_verdict, plan_in_range}
+use Rattle.rules.specs.Answering.{Accepted}
 
 -- the sums so far of a list of lengths, from a start on
 unfoldable pub ends_from : ℕ → List ℕ → List ℕ

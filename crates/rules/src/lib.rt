@@ -4,9 +4,13 @@
 ghost use Rattle.std.specs.Prelude.{◌≡◌};
 ghost use Rattle.rules.specs.Numbers.{location_number, table_number, refusal_number, refusal_detail, reply_number};
 ghost use Rattle.rules.specs.Plans.{is_list};
+ghost use Rattle.rules.specs.Spots.{spot_in_range};
+ghost use Rattle.rules.specs.Tables.{polygons_in};
+
+use geom::Point;
 
 /// Where a point lies.
-#[derive(Clone, Copy)]
+#[derive(Clone, Copy, PartialEq, Eq)]
 pub enum Location {
     Outside,
     Inside,
@@ -16,7 +20,7 @@ pub enum Location {
 /// The lent tables that refusal 11 names.
 #[derive(Clone, Copy)]
 pub enum Table {
-    Corners,
+    Corners = 1,
     Rings,
     Polygons,
     Nodes,
@@ -57,22 +61,46 @@ pub enum Refusal {
     Unclosed,
 }
 
-/// A reply carries one of the three places or a refusal.
+/// 15: the tables are not sound. The error of what can fail with this refusal alone.
 #[derive(Clone, Copy)]
-pub enum Reply {
-    At(Location),
-    Refused(Refusal),
+pub struct Unsound;
+
+impl From<Unsound> for Refusal {
+    ghost use Rattle.rules.specs.declared.Refusal.TheVariants.{Unsound as refused_as_unsound};
+
+    ghost from_gives = { λ _ refusal. refusal ≡ refused_as_unsound };
+
+    fn from(_unsound: Unsound) -> Self {
+        Self::Unsound
+    }
 }
 
-/// What is judged is accepted or refused.
+/// A reply carries one of the three places or a refusal.
+pub type Reply = Result<Location, Refusal>;
+
+/// A point that is asked for.
 #[derive(Clone, Copy)]
-pub enum Verdict {
-    Accepted,
-    Refused(Refusal),
+pub enum Spot {
+    /// A point of the grid.
+    OnGrid(Point),
+    /// A point of the half-grid, which is named by its double.
+    Doubled(Point),
+}
+
+impl Spot {
+    /// Whether it is in range: within ±2^40 on the grid, its double within ±2^41 on the half-grid.
+    pub fn in_range(self) -> bool
+        ensures { result ≡ spot_in_range self }
+    {
+        match self {
+            Spot::OnGrid(p) => p.in_range(),
+            Spot::Doubled(p) => p.in_doubled_range(),
+        }
+    }
 }
 
 /// How the rings of a plan make up its region.
-#[derive(Clone, Copy)]
+#[derive(Clone, Copy, PartialEq, Eq)]
 pub enum Kind {
     /// A list of polygons, each an outer ring and then its holes.
     Polygons,
@@ -92,7 +120,7 @@ pub struct State {
 }
 
 /// The four rays on which windings are counted.
-#[derive(Clone, Copy)]
+#[derive(Clone, Copy, PartialEq, Eq)]
 pub enum Ray {
     Right,
     Left,
@@ -104,35 +132,28 @@ pub enum Ray {
 pub fn is_list(kind: Kind) -> bool
     ensures { result ≡ is_list kind }
 {
-    match kind {
-        Kind::Polygons => true,
-        Kind::Tree => false,
-    }
+    kind == Kind::Polygons
+}
+
+/// How many polygons a plan of this kind and with so many entries in its polygon table has: none in a tree.
+pub fn polygons_in(kind: Kind, entries: usize) -> usize
+    ensures { result ≡ polygons_in kind entries }
+{
+    if is_list(kind) { entries } else { 0 }
 }
 
 /// 0 outside, 1 inside, 2 on the boundary.
 pub fn location_number(location: Location) -> usize
     ensures { result ≡ location_number location }
 {
-    match location {
-        Location::Outside => 0,
-        Location::Inside => 1,
-        Location::OnBoundary => 2,
-    }
+    location as usize
 }
 
 /// 1 corners, 2 rings, 3 polygons, 4 nodes, 5 edges, 6 the output of Well-Known Text.
 pub fn table_number(table: Table) -> usize
     ensures { result ≡ table_number table }
 {
-    match table {
-        Table::Corners => 1,
-        Table::Rings => 2,
-        Table::Polygons => 3,
-        Table::Nodes => 4,
-        Table::Edges => 5,
-        Table::Output => 6,
-    }
+    table as usize
 }
 
 /// The number of a refusal, in document 01 or document 02.
@@ -161,19 +182,10 @@ pub fn refusal_detail(refusal: Refusal) -> usize
     ensures { result ≡ refusal_detail refusal }
 {
     match refusal {
-        Refusal::TextTooLong => 0,
         Refusal::BadLine(line) => line,
-        Refusal::Uneven => 0,
-        Refusal::TooMany => 0,
-        Refusal::NoSuchCorner => 0,
-        Refusal::PlaceOutOfRange => 0,
         Refusal::TableTooShort(table) => table_number(table),
-        Refusal::PlanOutOfRange => 0,
-        Refusal::UndoFull => 0,
-        Refusal::NothingToUndo => 0,
-        Refusal::Unsound => 0,
         Refusal::OffGrammar(place) => place,
-        Refusal::Unclosed => 0,
+        _ => 0,
     }
 }
 
@@ -182,7 +194,7 @@ pub fn reply_number(reply: Reply) -> i64
     ensures { result ≡ reply_number reply }
 {
     match reply {
-        Reply::At(location) => location_number(location) as i64,
-        Reply::Refused(refusal) => 0 - (refusal_number(refusal) as i64),
+        Ok(location) => location_number(location) as i64,
+        Err(refusal) => 0 - (refusal_number(refusal) as i64),
     }
 }

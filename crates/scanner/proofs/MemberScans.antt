@@ -13,17 +13,17 @@ use Rattle.grammar.specs.Grammar.{Polygon}
 use Rattle.grammar.specs.Modes.{broken_mode, want_member_mode, empty_member_mode, after_member_mode, want_ring_mode, finished_mode, nothing_event, next_mode, event_of}
 use Rattle.grammar.specs.Spellings.{breaks}
 use Rattle.grammar.specs.Scans.{read_from}
-use Rattle.grammar.specs.Tokens.{Resting, NextRead}
+use Rattle.grammar.specs.Tokens.{Resting, NextRead, Read}
 use Rattle.grammar.specs.Plans.{coordinates, every_closed}
 use Rattle.grammar.specs.Plans as Plans
 use Rattle.grammar.proofs.Steps.{stops_early, byte_leads, byte_refused}
 use Rattle.grammar.proofs.Tables.{coordinates_append, lengths_append, counts_append, total_append, coordinates_twice, every_append, and_assoc, and_true}
 use Rattle.scanner.specs.declared.Extent.{Extent}
-use Rattle.scanner.specs.declared.Scan.{Scan}
-use Rattle.scanner.specs.declared.Scan.TheVariants.{Read, Off}
+use Rattle.std.specs.Prelude.{Some, Ok, Err}
+use Rattle.grammar.specs.declared.OffGrammar.{OffGrammar}
 use Rattle.scanner.specs.Puts.{put}
 use Rattle.scanner.specs.Extents.{no_extent, with_all, Counted}
-use Rattle.scanner.specs.Scanned.{so_far_of, Matched, Adds, PolygonScanned, MemberThere, MemberScanned, AllThere}
+use Rattle.scanner.specs.Scanned.{so_far_of, WordRead, Adds, PolygonScanned, MemberThere, MemberScanned, AllThere}
 use Rattle.scanner.proofs.Puts.{put_append, put_length}
 use Rattle.scanner.proofs.WordScans.{member_spelt, word_off, word_whole, word_inside, empty_member}
 
@@ -91,40 +91,40 @@ unfolding next_mode
 neither b s o e = rw (ne_eqb b 32 s, ne_eqb b 40 o, ne_eqb b 69 e) refl
 
 module _ (text : List ℕ) (at : ℕ) (m : NextByte) (k : NextRead text at m) where
-  pub member_off : (m.byte ≡ 40 → ⊥) → (m.byte ≡ 69 → ⊥) → (done : List Polygon) → read_from text at want_member_mode (so_far_of done []) ≡ breaks m.at
-  member_off o e done = byte_refused text at m k want_member_mode (so_far_of done []) want_rests refl (λ s. neither m.byte s o e)
+  pub member_off : (m.byte ≡ Some 40 → ⊥) → (m.byte ≡ Some 69 → ⊥) → (done : List Polygon) → read_from text at want_member_mode (so_far_of done []) ≡ breaks m.at
+  member_off o e done = byte_refused text at m k want_member_mode (so_far_of done []) want_rests refl (λ b i s. neither b s (λ x. o (i ∙ ap Some x)) (λ x. e (i ∙ ap Some x)))
 
-  pub member_opened : (e : Extent) (c c' : List ℤ) (l l' n n' : List ℕ) (r : Scan) → m.byte ≡ 40 → PolygonScanned text (m.at + 1) e c c' l l' n n' r → MemberScanned text at e c c' l l' n n' r
-  member_opened e c c' l l' n n' (Read e' end) o g =
+  pub member_opened : (e : Extent) (c c' : List ℤ) (l l' n n' : List ℕ) (r : Read Extent) → m.byte ≡ Some 40 → PolygonScanned text (m.at + 1) e c c' l l' n n' r → MemberScanned text at e c c' l l' n n' r
+  member_opened e c c' l l' n n' (Ok (e', end)) o g =
       let w = k.skipped.on in
       let h = g.on in
       record {
         added = g.rings ∷ [];
-        means = λ done. byte_leads text at m k want_member_mode (so_far_of done []) 39 (want_ring_mode true) nothing_event want_rests o opens.0 opens.1 refl ∙ g.means true done;
+        means = λ done. byte_leads text at m k want_member_mode (so_far_of done []) 40 (want_ring_mode true) nothing_event want_rests o opens.0 opens.1 refl ∙ g.means true done;
         adds = g.adds;
         on = omega arith;
         inside = g.inside;
         few = g.few;
       }
-  member_opened e c c' l l' n n' (Off place) o g = λ done. byte_leads text at m k want_member_mode (so_far_of done []) 39 (want_ring_mode true) nothing_event want_rests o opens.0 opens.1 refl ∙ g true done
+  member_opened e c c' l l' n n' (Err off) o g = λ done. byte_leads text at m k want_member_mode (so_far_of done []) 40 (want_ring_mode true) nothing_event want_rests o opens.0 opens.1 refl ∙ g true done
 
-  first_byte_lem : (done : List Polygon) → m.byte ≡ 69 → read_from text at want_member_mode (so_far_of done []) ≡ read_from text (m.at + 1) (empty_member_mode 1) (so_far_of done [])
-  first_byte_lem done e = byte_leads text at m k want_member_mode (so_far_of done []) 68 (empty_member_mode 1) nothing_event want_rests e empties.0 empties.1 refl
+  first_byte_lem : (done : List Polygon) → m.byte ≡ Some 69 → read_from text at want_member_mode (so_far_of done []) ≡ read_from text (m.at + 1) (empty_member_mode 1) (so_far_of done [])
+  first_byte_lem done e = byte_leads text at m k want_member_mode (so_far_of done []) 69 (empty_member_mode 1) nothing_event want_rests e empties.0 empties.1 refl
 
-  pub empty_off : (r : ℕ) → m.byte ≡ 69 → Matched text (m.at + 1) (77 ∷ 80 ∷ 84 ∷ 89 ∷ []) r → r < 4 → (done : List Polygon) → read_from text at want_member_mode (so_far_of done []) ≡ breaks (m.at + 1 + r)
-  empty_off r e w h done = first_byte_lem done e ∙ word_off text (m.at + 1) _ _ member_spelt r w (so_far_of done []) h
+  pub empty_off : (off : OffGrammar) → m.byte ≡ Some 69 → WordRead text (m.at + 1) (77 ∷ 80 ∷ 84 ∷ 89 ∷ []) (Err off) → (done : List Polygon) → read_from text at want_member_mode (so_far_of done []) ≡ breaks off.place
+  empty_off off e w done = first_byte_lem done e ∙ word_off text (m.at + 1) _ _ member_spelt off w (so_far_of done [])
 
-  pub empty_there : (r : ℕ) (e : Extent) (c : List ℤ) (l n : List ℕ) → m.byte ≡ 69 → Matched text (m.at + 1) (77 ∷ 80 ∷ 84 ∷ 89 ∷ []) r → 4 ≤ r → Counted e at → MemberThere text at e c c l l n n e (m.at + 5)
-  empty_there r e c l n b w h few =
+  pub empty_there : (end : ℕ) (e : Extent) (c : List ℤ) (l n : List ℕ) → m.byte ≡ Some 69 → WordRead text (m.at + 1) (77 ∷ 80 ∷ 84 ∷ 89 ∷ []) (Ok end) → Counted e at → MemberThere text at e c c l l n n e end
+  empty_there end e c l n b w few =
       let o = k.skipped.on in
-      let i = word_inside text (m.at + 1) _ _ member_spelt r w (omega arith) h in
-      let place : m.at + 1 + 4 ≡ m.at + 5 = omega arith in
+      let i = word_inside text (m.at + 1) _ _ member_spelt end w (omega arith) in
       let x = few.corners in
       let y = few.rings in
       let z = few.polygons in
+      let p = w.0 in
       record {
         added = [];
-        means = λ done. first_byte_lem done b ∙ word_whole text (m.at + 1) _ _ member_spelt r w (so_far_of done []) h ∙ ap (λ j. read_from text j (empty_member_mode 5) (so_far_of done [])) place ∙ empty_member text (m.at + 5) (so_far_of done []) ∙ ap (λ d. read_from text (m.at + 5) after_member_mode (so_far_of d [])) (sym (append-nil done));
+        means = λ done. first_byte_lem done b ∙ word_whole text (m.at + 1) _ _ member_spelt end w (so_far_of done []) ∙ empty_member text end (so_far_of done []) ∙ ap (λ d. read_from text end after_member_mode (so_far_of d [])) (sym (append-nil done));
         adds = adds_none e c l n;
         on = omega arith;
         inside = omega arith;
@@ -189,10 +189,10 @@ module _ (text : List ℕ) (at : ℕ) (corners₀ corners : List ℤ) (lengths�
     adds_it : Adds no_extent corners₀ corners' lengths₀ lengths' counts₀ counts' more (g.polygons ++ q.added)
     adds_it = adds_both no_extent so_far more corners₀ corners corners' lengths₀ lengths lengths' counts₀ counts counts' g.polygons q.added g.adds q.adds
 
-    pub behind_off : (m.byte ≡ 44 → ⊥) → (m.byte ≡ 41 → ⊥) → read_from text at want_member_mode (so_far_of [] []) ≡ breaks m.at
-    behind_off c r = with_it ∙ byte_refused text end m k after_member_mode (so_far_of (g.polygons ++ q.added) []) after_rests refl (λ s. other m.byte s c r)
+    pub behind_off : (m.byte ≡ Some 44 → ⊥) → (m.byte ≡ Some 41 → ⊥) → read_from text at want_member_mode (so_far_of [] []) ≡ breaks m.at
+    behind_off c r = with_it ∙ byte_refused text end m k after_member_mode (so_far_of (g.polygons ++ q.added) []) after_rests refl (λ b i s. other b s (λ x. c (i ∙ ap Some x)) (λ x. r (i ∙ ap Some x)))
 
-    pub one_more : m.byte ≡ 44 → m.at < length text → Members text at corners₀ corners' lengths₀ lengths' counts₀ counts' more (m.at + 1)
+    pub one_more : m.byte ≡ Some 44 → m.at < length text → Members text at corners₀ corners' lengths₀ lengths' counts₀ counts' more (m.at + 1)
     one_more c h =
         let w = k.skipped.on in
         let x = q.few.corners in
@@ -200,17 +200,17 @@ module _ (text : List ℕ) (at : ℕ) (corners₀ corners : List ℤ) (lengths�
         let z = q.few.polygons in
         record {
           polygons = g.polygons ++ q.added;
-          means = with_it ∙ byte_leads text end m k after_member_mode (so_far_of (g.polygons ++ q.added) []) 43 want_member_mode nothing_event after_rests c comma.0 comma.1 refl;
+          means = with_it ∙ byte_leads text end m k after_member_mode (so_far_of (g.polygons ++ q.added) []) 44 want_member_mode nothing_event after_rests c comma.0 comma.1 refl;
           adds = adds_it;
           inside = omega arith;
           few = record { corners = omega arith; rings = omega arith; polygons = omega arith };
         }
 
-    pub members_whole : m.byte ≡ 41 → m.at < length text → AllThere text at want_member_mode corners₀ corners' lengths₀ lengths' counts₀ counts' more (m.at + 1)
+    pub members_whole : m.byte ≡ Some 41 → m.at < length text → AllThere text at want_member_mode corners₀ corners' lengths₀ lengths' counts₀ counts' more (m.at + 1)
     members_whole c h =
         record {
           polygons = g.polygons ++ q.added;
-          means = with_it ∙ byte_leads text end m k after_member_mode (so_far_of (g.polygons ++ q.added) []) 40 finished_mode nothing_event after_rests c bracket.0 bracket.1 refl;
+          means = with_it ∙ byte_leads text end m k after_member_mode (so_far_of (g.polygons ++ q.added) []) 41 finished_mode nothing_event after_rests c bracket.0 bracket.1 refl;
           adds = adds_it;
           inside = omega arith;
         }

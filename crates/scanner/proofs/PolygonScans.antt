@@ -20,6 +20,7 @@ use Rattle.grammar.specs.Plans as Plans
 use Rattle.grammar.proofs.Steps.{stops_early, byte_leads, byte_refused}
 use Rattle.grammar.proofs.Tables.{rings_append, ring_lengths_append, total_append, rings_twice, lengths_counted, closed_append, and_assoc, and_true}
 use Rattle.scanner.specs.declared.Extent.{Extent}
+use Rattle.std.specs.Prelude.{Some}
 use Rattle.scanner.specs.Puts.{put}
 use Rattle.scanner.specs.Extents.{with_ring, with_rings, with_polygon, with_all, Counted}
 use Rattle.scanner.specs.Scanned.{so_far_of, RingThere, after_polygon, PolygonThere}
@@ -141,10 +142,10 @@ module _ (text : List ℕ) (at : ℕ) (e : Extent) (corners₀ corners : List �
     rings_now = ap (λ z. z.rings) more_is
 
     module _ (m : NextByte) (k : NextRead text end m) where
-      pub behind_off : (m.byte ≡ 44 → ⊥) → (m.byte ≡ 41 → ⊥) → (multi : Bool) (done : List Polygon) → read_from text at (want_ring_mode multi) (so_far_of done []) ≡ breaks m.at
-      behind_off c r multi done = means_it multi done ∙ byte_refused text end m k (after_ring_mode multi) (so_far_of done (g.rings ++ (q.ring ∷ []))) (after_rests multi) refl (λ s. other multi m.byte s c r)
+      pub behind_off : (m.byte ≡ Some 44 → ⊥) → (m.byte ≡ Some 41 → ⊥) → (multi : Bool) (done : List Polygon) → read_from text at (want_ring_mode multi) (so_far_of done []) ≡ breaks m.at
+      behind_off c r multi done = means_it multi done ∙ byte_refused text end m k (after_ring_mode multi) (so_far_of done (g.rings ++ (q.ring ∷ []))) (after_rests multi) refl (λ b i s. other multi b s (λ x. c (i ∙ ap Some x)) (λ x. r (i ∙ ap Some x)))
 
-      pub one_more : m.byte ≡ 44 → m.at < length text → Rings text at e corners₀ corners' lengths₀ lengths' more (m.at + 1)
+      pub one_more : m.byte ≡ Some 44 → m.at < length text → Rings text at e corners₀ corners' lengths₀ lengths' more (m.at + 1)
       one_more c h =
           let o = g.on in
           let l = q.on in
@@ -155,7 +156,7 @@ module _ (text : List ℕ) (at : ℕ) (e : Extent) (corners₀ corners : List �
           record {
             rings = g.rings ++ (q.ring ∷ []);
             counted = more_is;
-            means = λ multi done. means_it multi done ∙ byte_leads text end m k (after_ring_mode multi) (so_far_of done (g.rings ++ (q.ring ∷ []))) 43 (want_ring_mode multi) nothing_event (after_rests multi) c (comma multi).0 (comma multi).1 refl;
+            means = λ multi done. means_it multi done ∙ byte_leads text end m k (after_ring_mode multi) (so_far_of done (g.rings ++ (q.ring ∷ []))) 44 (want_ring_mode multi) nothing_event (after_rests multi) c (comma multi).0 (comma multi).1 refl;
             corners_held = corners_are;
             lengths_held = lengths_are;
             on = omega arith;
@@ -163,7 +164,7 @@ module _ (text : List ℕ) (at : ℕ) (e : Extent) (corners₀ corners : List �
             few = record { corners = omega arith; rings = omega arith; polygons = omega arith };
           }
 
-      pub polygon_whole : (e' : Extent) (counts counts' : List ℕ) → m.byte ≡ 41 → m.at < length text → e' ≡ with_polygon more → counts' ≡ set counts e.polygons (more.rings - e.rings) → PolygonThere text at e corners₀ corners' lengths₀ lengths' counts counts' e' (m.at + 1)
+      pub polygon_whole : (e' : Extent) (counts counts' : List ℕ) → m.byte ≡ Some 41 → m.at < length text → e' ≡ with_polygon more → counts' ≡ set counts e.polygons (more.rings - e.rings) → PolygonThere text at e corners₀ corners' lengths₀ lengths' counts counts' e' (m.at + 1)
       unfolding coordinates Plans.lengths Plans.counts
       polygon_whole e' counts counts' c h made stored =
           let o = g.on in
@@ -176,7 +177,7 @@ module _ (text : List ℕ) (at : ℕ) (e : Extent) (corners₀ corners : List �
           let left : more.rings - e.rings ≡ length (g.rings ++ (q.ring ∷ [])) = omega arith in
           record {
             rings = g.rings ++ (q.ring ∷ []);
-            means = λ multi done. means_it multi done ∙ byte_leads text end m k (after_ring_mode multi) (so_far_of done (g.rings ++ (q.ring ∷ []))) 40 (after_polygon multi) polygon_ends_event (after_rests multi) c (bracket multi).0 (bracket multi).1 (after_whole multi);
+            means = λ multi done. means_it multi done ∙ byte_leads text end m k (after_ring_mode multi) (so_far_of done (g.rings ++ (q.ring ∷ []))) 41 (after_polygon multi) polygon_ends_event (after_rests multi) c (bracket multi).0 (bracket multi).1 (after_whole multi);
             adds = record {
               counted = made ∙ ap with_polygon more_is ∙ one_polygon e (g.rings ++ (q.ring ∷ []));
               corners_put = corners_are ∙ ap (λ xs. put (2 * e.corners) xs corners₀) (sym (append-nil (ring_numbers (g.rings ++ (q.ring ∷ [])))));

@@ -6,26 +6,25 @@ use Prim.Native.Nat.{ℕ, ◌+◌, ◌*◌, ◌≤◌, ◌<◌}
 use native.Mathlib.Omega.{arith}
 use lib.IntN.{ℤ}
 use lib.ListN.{length, set, length-append}
-use borrow.Author.Tests.{eq-eqb, ne_eqb}
+use borrow.Author.Tests.{ne_eqb}
 use Rattle.geom.specs.declared.Point.{Point}
 use Rattle.grammar.specs.declared.NextByte.{NextByte}
 use Rattle.grammar.specs.Grammar.{Ring, Polygon}
 use Rattle.grammar.specs.Modes.{broken_mode, want_ring_mode, want_x_mode, nothing_event, after_y_mode, after_ring_mode, Place, corner_event, ring_ends_event, next_mode, event_of}
 use Rattle.grammar.specs.Spellings.{breaks}
 use Rattle.grammar.specs.Scans.{place_of, read_from}
-use Rattle.grammar.specs.Tokens.{Resting, NextRead}
+use Rattle.grammar.specs.Tokens.{Resting, NextRead, Read}
 use Rattle.grammar.specs.Texts.{drop_last}
-use Rattle.grammar.specs.Plans.{same_point, is_closed, numbers_of}
+use Rattle.grammar.specs.Plans.{is_closed, numbers_of}
 use Rattle.grammar.proofs.Runs.{point_back}
 use Rattle.grammar.proofs.Steps.{stops_early, byte_leads, byte_refused}
 use Rattle.grammar.proofs.Tables.{numbers_append, numbers_twice, lone_open, closed_by}
 use Rattle.grammar.proofs.Texts.{drop_last_lem}
 use Rattle.scanner.specs.declared.Extent.{Extent}
-use Rattle.scanner.specs.declared.Scan.{Scan}
-use Rattle.scanner.specs.declared.Scan.TheVariants.{Read, Off}
-use Rattle.scanner.specs.declared.positions.Position as Position
+use Rattle.std.specs.Prelude.{Option, Some, None, unwrap_or, Ok, Err}
+use Rattle.grammar.specs.declared.OffGrammar.{OffGrammar}
 use Rattle.scanner.specs.Puts.{put}
-use Rattle.scanner.specs.Extents.{with_ring, Counted, first_of, closes}
+use Rattle.scanner.specs.Extents.{with_ring, Counted, closes}
 use Rattle.scanner.specs.Scanned.{so_far_of, PositionRead, RingThere, RingScanned}
 use Rattle.scanner.proofs.Puts.{put_append, put_length}
 
@@ -49,54 +48,54 @@ other multi p b s c r = rw (ne_eqb b 32 s, ne_eqb b 44 c, ne_eqb b 41 r) refl
 
 -- ---- the first position
 
-abbrev FirstIs : Point → Ring → Type 0
-FirstIs first [] = Unit {0}
-FirstIs first (p ∷ ring) = first ≡ p
+abbrev head_of : Ring → Option Point
+head_of [] = None
+head_of (p ∷ ring) = Some p
 
-first_kept : (count : ℕ) (first p : Point) (ring : Ring) → count ≡ length ring → FirstIs first ring → FirstIs (first_of count first p) (ring ++ (p ∷ []))
-first_kept count first p [] e f = rw (eq-eqb count 0 e) refl
-first_kept count first p (q ∷ ring) e f = rw (ne_eqb count 0 (λ z. omega arith)) f
+first_kept : (first : Option Point) (p : Point) (ring : Ring) → first ≡ head_of ring → Some (unwrap_or first p) ≡ head_of (ring ++ (p ∷ []))
+first_kept first p [] e = ap (λ o. Some (unwrap_or o p)) e
+first_kept first p (q ∷ ring) e = ap (λ o. Some (unwrap_or o p)) e
 
-closed_so : (count : ℕ) (first p : Point) (ring : Ring) → count ≡ length ring → FirstIs first ring → closes count (first_of count first p) p ≡ is_closed (ring ++ (p ∷ []))
-closed_so count first p [] e f = rw (eq-eqb count 0 e) (sym (lone_open p))
-closed_so count first p (q ∷ ring) e f = rw (ne_eqb count 0 (λ z. omega arith)) (ap (λ o. same_point o p) f ∙ sym (closed_by q p ring))
+closed_so : (first : Option Point) (p : Point) (ring : Ring) → first ≡ head_of ring → closes first p ≡ is_closed (ring ++ (p ∷ []))
+closed_so first p [] e = ap (λ o. closes o p) e ∙ sym (lone_open p)
+closed_so first p (q ∷ ring) e = ap (λ o. closes o p) e ∙ sym (closed_by q p ring)
 
 pub fewer : (e : Extent) (a b : ℕ) → a ≤ b → Counted e a → Counted e b
 fewer e a b h c = let x = c.corners in let y = c.rings in let z = c.polygons in record { corners = omega arith; rings = omega arith; polygons = omega arith }
 
 -- ---- the positions so far
 
-pub record Round (text : List ℕ) (at n : ℕ) (corners₀ corners : List ℤ) (first : Point) (count place : ℕ) : Type 0 where
+pub record Round (text : List ℕ) (at n : ℕ) (corners₀ corners : List ℤ) (first : Option Point) (count place : ℕ) : Type 0 where
   pub points : Ring
   pub counted : count ≡ length points
-  pub begins : FirstIs first points
+  pub begins : first ≡ head_of points
   pub means : (multi : Bool) (done : List Polygon) (rings : Polygon) → read_from text at (want_x_mode multi) (so_far_of done rings) ≡ read_from text place (want_x_mode multi) (record { done = done; rings = rings; ring = points })
   pub held : corners ≡ put (2 * n) (numbers_of points) corners₀
   pub on : at + count ≤ place
   pub inside : place ≤ length text
 
-pub no_round : (text : List ℕ) (at n : ℕ) (corners : List ℤ) (first : Point) → at ≤ length text → Round text at n corners corners first 0 at
+pub no_round : (text : List ℕ) (at n : ℕ) (corners : List ℤ) → at ≤ length text → Round text at n corners corners None 0 at
 unfolding put numbers_of
-no_round text at n corners first h = record { points = []; counted = refl; begins = tt; means = λ multi done rings. refl; held = refl; on = omega arith; inside = h }
+no_round text at n corners h = record { points = []; counted = refl; begins = refl; means = λ multi done rings. refl; held = refl; on = omega arith; inside = h }
 
-module _ (text : List ℕ) (at n : ℕ) (corners₀ corners : List ℤ) (first : Point) (count place : ℕ) (g : Round text at n corners₀ corners first count place) where
+module _ (text : List ℕ) (at n : ℕ) (corners₀ corners : List ℤ) (first : Option Point) (count place : ℕ) (g : Round text at n corners₀ corners first count place) where
   pub round_length : length corners ≡ length corners₀
   round_length = ap length g.held ∙ put_length (2 * n) (numbers_of g.points) corners₀
 
   pub round_early : length text ≤ place → (multi : Bool) (done : List Polygon) (rings : Polygon) → read_from text at (want_x_mode multi) (so_far_of done rings) ≡ breaks place
   round_early h multi done rings = g.means multi done rings ∙ stops_early text place (want_x_mode multi) (record { done = done; rings = rings; ring = g.points }) h refl
 
-  pub position_off : (broken : ℕ) → PositionRead text place (Position.TheVariants.Off broken) → (multi : Bool) (done : List Polygon) (rings : Polygon) → read_from text at (want_x_mode multi) (so_far_of done rings) ≡ breaks broken
-  position_off broken q multi done rings = g.means multi done rings ∙ q.means multi (record { done = done; rings = rings; ring = g.points })
+  pub position_off : (off : OffGrammar) → PositionRead text place (Err off) → (multi : Bool) (done : List Polygon) (rings : Polygon) → read_from text at (want_x_mode multi) (so_far_of done rings) ≡ breaks off.place
+  position_off off q multi done rings = g.means multi done rings ∙ q.means multi (record { done = done; rings = rings; ring = g.points })
 
-  module _ (p : Point) (end : ℕ) (q : PositionRead text place (Position.TheVariants.At p end)) (m : NextByte) (k : NextRead text end m) where
-    pub mark_off : (m.byte ≡ 44 → ⊥) → (m.byte ≡ 41 → ⊥) → (multi : Bool) (done : List Polygon) (rings : Polygon) → read_from text at (want_x_mode multi) (so_far_of done rings) ≡ breaks m.at
+  module _ (p : Point) (end : ℕ) (q : PositionRead text place (Ok (p, end))) (m : NextByte) (k : NextRead text end m) where
+    pub mark_off : (m.byte ≡ Some 44 → ⊥) → (m.byte ≡ Some 41 → ⊥) → (multi : Bool) (done : List Polygon) (rings : Polygon) → read_from text at (want_x_mode multi) (so_far_of done rings) ≡ breaks m.at
     mark_off c r multi done rings =
         g.means multi done rings
         ∙ q.means multi (record { done = done; rings = rings; ring = g.points })
-        ∙ byte_refused text end m k (after_y_mode multi (place_of p)) (record { done = done; rings = rings; ring = g.points }) (after_rests multi (place_of p)) refl (λ s. other multi (place_of p) m.byte s c r)
+        ∙ byte_refused text end m k (after_y_mode multi (place_of p)) (record { done = done; rings = rings; ring = g.points }) (after_rests multi (place_of p)) refl (λ b i s. other multi (place_of p) b s (λ x. c (i ∙ ap Some x)) (λ x. r (i ∙ ap Some x)))
 
-    pub one_more : (first' : Point) (corners' : List ℤ) → m.byte ≡ 44 → first' ≡ first_of count first p → m.at < length text → corners' ≡ put (2 * (n + count)) (p.x ∷ p.y ∷ []) corners → Round text at n corners₀ corners' first' (count + 1) (m.at + 1)
+    pub one_more : (first' : Option Point) (corners' : List ℤ) → m.byte ≡ Some 44 → first' ≡ Some (unwrap_or first p) → m.at < length text → corners' ≡ put (2 * (n + count)) (p.x ∷ p.y ∷ []) corners → Round text at n corners₀ corners' first' (count + 1) (m.at + 1)
     unfolding numbers_of
     one_more first' corners' c e h s =
         let o = g.on in
@@ -107,11 +106,11 @@ module _ (text : List ℕ) (at n : ℕ) (corners₀ corners : List ℤ) (first :
         record {
           points = g.points ++ (p ∷ []);
           counted = omega arith;
-          begins = mathlib.Core.Path.subst (λ o. FirstIs o (g.points ++ (p ∷ []))) (sym e) (first_kept count first p g.points g.counted g.begins);
+          begins = e ∙ first_kept first p g.points g.begins;
           means = λ multi done rings.
               g.means multi done rings
               ∙ q.means multi (record { done = done; rings = rings; ring = g.points })
-              ∙ byte_leads text end m k (after_y_mode multi (place_of p)) (record { done = done; rings = rings; ring = g.points }) 43 (want_x_mode multi) (corner_event (place_of p)) (after_rests multi (place_of p)) c (comma multi (place_of p)).0 (comma multi (place_of p)).1 refl
+              ∙ byte_leads text end m k (after_y_mode multi (place_of p)) (record { done = done; rings = rings; ring = g.points }) 44 (want_x_mode multi) (corner_event (place_of p)) (after_rests multi (place_of p)) c (comma multi (place_of p)).0 (comma multi (place_of p)).1 refl
               ∙ ap (λ o. read_from text (m.at + 1) (want_x_mode multi) (record { done = done; rings = rings; ring = g.points ++ (o ∷ []) })) (point_back p);
           held = s ∙ ap (put (2 * (n + count)) (p.x ∷ p.y ∷ [])) g.held
               ∙ ap (λ i. put i (p.x ∷ p.y ∷ []) (put (2 * n) (numbers_of g.points) corners₀)) (let t = numbers_twice g.points in let i : 2 * (n + count) ≡ 2 * n + length (numbers_of g.points) = omega arith in i)
@@ -121,14 +120,14 @@ module _ (text : List ℕ) (at n : ℕ) (corners₀ corners : List ℤ) (first :
           inside = omega arith;
         }
 
-    pub ring_whole : (e e' : Extent) (lengths lengths' : List ℕ) → n ≡ e.corners → m.byte ≡ 41 → m.at < length text → Counted e at → e' ≡ with_ring e count (closes count (first_of count first p) p) → lengths' ≡ set lengths e.rings count → RingThere text at want_x_mode e corners₀ corners lengths lengths' e' (m.at + 1)
+    pub ring_whole : (e e' : Extent) (lengths lengths' : List ℕ) → n ≡ e.corners → m.byte ≡ Some 41 → m.at < length text → Counted e at → e' ≡ with_ring e count (closes first p) → lengths' ≡ set lengths e.rings count → RingThere text at want_x_mode e corners₀ corners lengths lengths' e' (m.at + 1)
     ring_whole e e' lengths lengths' same c h few made stored =
         let o = g.on in
         let l = q.ends.0 in
         let w = k.skipped.on in
         let dropped : drop_last (g.points ++ (p ∷ [])) ≡ g.points = drop_last_lem g.points p in
         let counts : count ≡ length (drop_last (g.points ++ (p ∷ []))) = g.counted ∙ ap length (sym dropped) in
-        let is : e' ≡ with_ring e (length (drop_last (g.points ++ (p ∷ [])))) (is_closed (g.points ++ (p ∷ []))) = made ∙ ap₂ (with_ring e) counts (closed_so count first p g.points g.counted g.begins) in
+        let is : e' ≡ with_ring e (length (drop_last (g.points ++ (p ∷ [])))) (is_closed (g.points ++ (p ∷ []))) = made ∙ ap₂ (with_ring e) counts (closed_so first p g.points g.begins) in
         let fc = few.corners in
         let fr = few.rings in
         let fp = few.polygons in
@@ -137,7 +136,7 @@ module _ (text : List ℕ) (at n : ℕ) (corners₀ corners : List ℤ) (first :
           means = λ multi done rings.
               g.means multi done rings
               ∙ q.means multi (record { done = done; rings = rings; ring = g.points })
-              ∙ byte_leads text end m k (after_y_mode multi (place_of p)) (record { done = done; rings = rings; ring = g.points }) 40 (after_ring_mode multi) (ring_ends_event (place_of p)) (after_rests multi (place_of p)) c (bracket multi (place_of p)).0 (bracket multi (place_of p)).1 refl
+              ∙ byte_leads text end m k (after_y_mode multi (place_of p)) (record { done = done; rings = rings; ring = g.points }) 41 (after_ring_mode multi) (ring_ends_event (place_of p)) (after_rests multi (place_of p)) c (bracket multi (place_of p)).0 (bracket multi (place_of p)).1 refl
               ∙ ap (λ o. read_from text (m.at + 1) (after_ring_mode multi) (so_far_of done (rings ++ ((g.points ++ (o ∷ [])) ∷ [])))) (point_back p);
           counted = is;
           corners_put = g.held ∙ ap₂ (λ i ring. put (2 * i) (numbers_of ring) corners₀) same (sym dropped);
@@ -166,11 +165,11 @@ unfolding next_mode
 not_open multi b s o = rw (ne_eqb b 32 s, ne_eqb b 40 o) refl
 
 module _ (text : List ℕ) (at : ℕ) (m : NextByte) (k : NextRead text at m) where
-  pub open_off : (m.byte ≡ 40 → ⊥) → (multi : Bool) (done : List Polygon) (rings : Polygon) → read_from text at (want_ring_mode multi) (so_far_of done rings) ≡ breaks m.at
-  open_off o multi done rings = byte_refused text at m k (want_ring_mode multi) (so_far_of done rings) (want_rests multi) refl (λ s. not_open multi m.byte s o)
+  pub open_off : (m.byte ≡ Some 40 → ⊥) → (multi : Bool) (done : List Polygon) (rings : Polygon) → read_from text at (want_ring_mode multi) (so_far_of done rings) ≡ breaks m.at
+  open_off o multi done rings = byte_refused text at m k (want_ring_mode multi) (so_far_of done rings) (want_rests multi) refl (λ b i s. not_open multi b s (λ x. o (i ∙ ap Some x)))
 
-  pub opened : (e : Extent) (corners corners' : List ℤ) (lengths lengths' : List ℕ) (r : Scan) → m.byte ≡ 40 → RingScanned text (m.at + 1) want_x_mode e corners corners' lengths lengths' r → RingScanned text at want_ring_mode e corners corners' lengths lengths' r
-  opened e corners corners' lengths lengths' (Read e' end) o g =
+  pub opened : (e : Extent) (corners corners' : List ℤ) (lengths lengths' : List ℕ) (r : Read Extent) → m.byte ≡ Some 40 → RingScanned text (m.at + 1) want_x_mode e corners corners' lengths lengths' r → RingScanned text at want_ring_mode e corners corners' lengths lengths' r
+  opened e corners corners' lengths lengths' (Ok (e', end)) o g =
       let w = k.skipped.on in
       let l = g.on in
       record {
@@ -185,5 +184,5 @@ module _ (text : List ℕ) (at : ℕ) (m : NextByte) (k : NextRead text at m) wh
       }
     where
       first : (multi : Bool) (done : List Polygon) (rings : Polygon) → read_from text at (want_ring_mode multi) (so_far_of done rings) ≡ read_from text (m.at + 1) (want_x_mode multi) (so_far_of done rings)
-      first multi done rings = byte_leads text at m k (want_ring_mode multi) (so_far_of done rings) 39 (want_x_mode multi) nothing_event (want_rests multi) o (opens multi).0 (opens multi).1 refl
-  opened e corners corners' lengths lengths' (Off place) o g = λ multi done rings. byte_leads text at m k (want_ring_mode multi) (so_far_of done rings) 39 (want_x_mode multi) nothing_event (want_rests multi) o (opens multi).0 (opens multi).1 refl ∙ g multi done rings
+      first multi done rings = byte_leads text at m k (want_ring_mode multi) (so_far_of done rings) 40 (want_x_mode multi) nothing_event (want_rests multi) o (opens multi).0 (opens multi).1 refl
+  opened e corners corners' lengths lengths' (Err off) o g = λ multi done rings. byte_leads text at m k (want_ring_mode multi) (so_far_of done rings) 40 (want_x_mode multi) nothing_event (want_rests multi) o (opens multi).0 (opens multi).1 refl ∙ g multi done rings

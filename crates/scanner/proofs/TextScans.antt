@@ -1,8 +1,8 @@
 -- A whole text: its first word, what stands behind it, and its end. Assumes nothing.
-use mathlib.Core.Path.{◌≡◌, refl, sym, ap, subst, ◌∙◌}
+use mathlib.Core.Path.{◌≡◌, refl, sym, ap, ◌∙◌}
 use mathlib.Core.Bool.{Bool, true, false}
 use mathlib.Core.List.{List, [], ◌∷◌}
-use Prim.Native.Nat.{ℕ, suc, ◌+◌, ◌≤◌, ◌<◌}
+use Prim.Native.Nat.{ℕ, ◌+◌, ◌≤◌, ◌<◌}
 use native.Mathlib.Decide.{dec_lt}
 use native.Mathlib.Omega.{arith}
 use lib.IntN.{ℤ}
@@ -13,12 +13,12 @@ use Rattle.grammar.specs.Modes.{Mode, start_mode, broken_mode, word_mode, spaced
 use Rattle.grammar.specs.Spellings.{spells, breaks}
 use Rattle.grammar.specs.Scans.{SoFar, is_broken, may_end, read_from}
 use Rattle.grammar.specs.Tokens.{Resting, NextRead}
-use Rattle.grammar.proofs.Steps.{leads, leaves, stops_early, stops_whole, space_skipped, byte_inside}
+use Rattle.grammar.proofs.Steps.{leads, leaves, stops_early, stops_whole, space_skipped, byte_inside, byte_is, byte_there}
 use Rattle.scanner.specs.declared.Extent.{Extent}
-use Rattle.scanner.specs.declared.Scan.{Scan}
-use Rattle.scanner.specs.declared.Scan.TheVariants.{Read, Off}
+use Rattle.std.specs.Prelude.{Some, Result, Ok, Err}
+use Rattle.grammar.specs.declared.OffGrammar.{OffGrammar}
 use Rattle.scanner.specs.Extents.{no_extent, Counted}
-use Rattle.scanner.specs.Scanned.{so_far_of, Matched, Adds, PolygonScanned, AllScanned, TextScanned, EmptyScanned, Ended, Within}
+use Rattle.scanner.specs.Scanned.{so_far_of, WordRead, PolygonThere, AllThere, TextThere, TextScanned, EmptyScanned, Ended}
 use Rattle.scanner.proofs.WordScans.{polygon_spelt, multipolygon_spelt, text_spelt, word_off, word_whole, word_inside, text_goes_on}
 use Rattle.scanner.proofs.MemberScans.{adds_none}
 
@@ -39,70 +39,40 @@ module _ (text : List ℕ) (end : ℕ) (m : NextByte) (k : NextRead text end m) 
   pub end_whole : length text ≤ m.at → (f : SoFar) → read_from text end finished_mode f ≡ spells f.done
   end_whole h f = k.skipped.same finished_mode f finished_rests ∙ stops_whole text m.at finished_mode f h refl
 
-abbrev IsRead : Scan → Type 0
-IsRead (Read e end) = Unit {0}
-IsRead (Off place) = ⊥
+-- what is in brackets, and then the end
+module _ (text : List ℕ) (at : ℕ) (mode : Mode) (c c' : List ℤ) (l l' n n' : List ℕ) (e : Extent) (end : ℕ) (g : AllThere text at mode c c' l l' n n' e end) where
+  pub all_whole : (done : Unit {0}) → Ended text end (Ok done) → TextThere text at mode c c' l l' n n' e
+  all_whole done h = record { polygons = g.polygons; means = g.means ∙ h (so_far_of g.polygons []); adds = g.adds }
 
-abbrev place_in : Scan → ℕ
-place_in (Read e end) = 0
-place_in (Off place) = place
-
--- what is in brackets, carried on to the end
-pub carried : (text : List ℕ) (at : ℕ) (mode : Mode) (c c' : List ℤ) (l l' n n' : List ℕ) (scan r : Scan) → AllScanned text at mode c c' l l' n n' scan → Ended text scan r → TextScanned text at mode c c' l l' n n' r
-carried text at mode c c' l l' n n' (Read e end) (Read e' end') g h =
-    record {
-      polygons = g.polygons;
-      means = g.means ∙ h.1 (so_far_of g.polygons []);
-      adds = subst (λ s. Adds no_extent c c' l l' n n' s g.polygons) (sym h.0) g.adds;
-    }
-carried text at mode c c' l l' n n' (Read e end) (Off place) g h = g.means ∙ h (so_far_of g.polygons [])
-carried text at mode c c' l l' n n' (Off broken) (Read e' end') g h = absurd (subst IsRead h tt)
-carried text at mode c c' l l' n n' (Off broken) (Off place) g h = g ∙ ap breaks (sym (ap place_in h))
+  pub all_cut : (off : OffGrammar) → Ended text end (Err off) → read_from text at mode (so_far_of [] []) ≡ breaks off.place
+  all_cut off h = g.means ∙ h (so_far_of g.polygons [])
 
 -- a polygon as the whole text
-pub polygon_all : (text : List ℕ) (at : ℕ) (c c' : List ℤ) (l l' n n' : List ℕ) (r : Scan) → PolygonScanned text at no_extent c c' l l' n n' r → AllScanned text at (want_ring_mode false) c c' l l' n n' r
-polygon_all text at c c' l l' n n' (Read e end) g = record { polygons = g.rings ∷ []; means = g.means false []; adds = g.adds; inside = g.inside }
-polygon_all text at c c' l l' n n' (Off place) g = g false []
+pub polygon_all : (text : List ℕ) (at : ℕ) (c c' : List ℤ) (l l' n n' : List ℕ) (e : Extent) (end : ℕ) → PolygonThere text at no_extent c c' l l' n n' e end → AllThere text at (want_ring_mode false) c c' l l' n n' e end
+polygon_all text at c c' l l' n n' e end g = record { polygons = g.rings ∷ []; means = g.means false []; adds = g.adds; inside = g.inside }
 
-pub polygon_within : (text : List ℕ) (at : ℕ) (e : Extent) (c c' : List ℤ) (l l' n n' : List ℕ) (r : Scan) → PolygonScanned text at e c c' l l' n n' r → Within text r
-polygon_within text at e c c' l l' n n' (Read e' end) g = g.inside
-polygon_within text at e c c' l l' n n' (Off place) g = tt
-
-pub all_within : (text : List ℕ) (at : ℕ) (mode : Mode) (c c' : List ℤ) (l l' n n' : List ℕ) (r : Scan) → AllScanned text at mode c c' l l' n n' r → Within text r
-all_within text at mode c c' l l' n n' (Read e end) g = g.inside
-all_within text at mode c c' l l' n n' (Off place) g = tt
-
-pub none_counted : (at : ℕ) (e : Extent) → e ≡ no_extent → Counted e at
-none_counted at e z =
-    let x = ap (λ s. s.corners) z in
-    let y = ap (λ s. s.rings) z in
-    let w = ap (λ s. s.polygons) z in
-    record { corners = omega arith; rings = omega arith; polygons = omega arith }
+pub none_counted : (at : ℕ) → Counted no_extent at
+none_counted at = record { corners = omega arith; rings = omega arith; polygons = omega arith }
 
 -- another mode before it
-pub before : (text : List ℕ) (at : ℕ) (mode : Mode) (first : ℕ) (other : Mode) (c c' : List ℤ) (l l' n n' : List ℕ) (r : Scan) → read_from text first other (so_far_of [] []) ≡ read_from text at mode (so_far_of [] []) → TextScanned text at mode c c' l l' n n' r → TextScanned text first other c c' l l' n n' r
-before text at mode first other c c' l l' n n' (Read e end) p g = record { polygons = g.polygons; means = p ∙ g.means; adds = g.adds }
-before text at mode first other c c' l l' n n' (Off place) p g = p ∙ g
+pub before : (text : List ℕ) (at : ℕ) (mode : Mode) (first : ℕ) (other : Mode) (c c' : List ℤ) (l l' n n' : List ℕ) (r : Result Extent OffGrammar) → read_from text first other (so_far_of [] []) ≡ read_from text at mode (so_far_of [] []) → TextScanned text at mode c c' l l' n n' r → TextScanned text first other c c' l l' n n' r
+before text at mode first other c c' l l' n n' (Ok e) p g = record { polygons = g.polygons; means = p ∙ g.means; adds = g.adds }
+before text at mode first other c c' l l' n n' (Err off) p g = p ∙ g
 
 -- ---- EMPTY
 
-module _ (text : List ℕ) (at r : ℕ) (m : Matched text at (77 ∷ 80 ∷ 84 ∷ 89 ∷ []) r) where
-  pub empty_cut : r < 4 → EmptyScanned text at (empty_text_mode 1) (Off (at + r))
-  empty_cut h c l n = word_off text at _ _ text_spelt r m (so_far_of [] []) h
+pub empty_cut : (text : List ℕ) (at : ℕ) (off : OffGrammar) → WordRead text at (77 ∷ 80 ∷ 84 ∷ 89 ∷ []) (Err off) → EmptyScanned text at (empty_text_mode 1) (Err off)
+empty_cut text at off w c l n = word_off text at _ _ text_spelt off w (so_far_of [] [])
 
-  whole : 4 ≤ r → read_from text at (empty_text_mode 1) (so_far_of [] []) ≡ read_from text (at + 4) (empty_text_mode 5) (so_far_of [] [])
-  whole h = word_whole text at _ _ text_spelt r m (so_far_of [] []) h
+module _ (text : List ℕ) (at end : ℕ) (w : WordRead text at (77 ∷ 80 ∷ 84 ∷ 89 ∷ []) (Ok end)) where
+  whole : read_from text at (empty_text_mode 1) (so_far_of [] []) ≡ read_from text end (empty_text_mode 5) (so_far_of [] [])
+  whole = word_whole text at _ _ text_spelt end w (so_far_of [] [])
 
-  pub empty_long : 4 ≤ r → at + 4 < length text → EmptyScanned text at (empty_text_mode 1) (Off (at + 4))
-  empty_long h k c l n = whole h ∙ text_goes_on text (at + 4) (so_far_of [] []) k
+  pub empty_long : end < length text → EmptyScanned text at (empty_text_mode 1) (Err (record { place = end }))
+  empty_long k c l n = whole ∙ text_goes_on text end (so_far_of [] []) k
 
-  pub empty_whole : (e : Extent) → 4 ≤ r → length text ≤ at + 4 → e ≡ no_extent → EmptyScanned text at (empty_text_mode 1) (Read e (at + 4))
-  empty_whole e h k z c l n =
-      record {
-        polygons = [];
-        means = whole h ∙ stops_whole text (at + 4) (empty_text_mode 5) (so_far_of [] []) k refl;
-        adds = subst (λ s. Adds no_extent c c l l n n s []) (sym z) (adds_none no_extent c l n);
-      }
+  pub empty_whole : length text ≤ end → EmptyScanned text at (empty_text_mode 1) (Ok no_extent)
+  empty_whole k c l n = record { polygons = []; means = whole ∙ stops_whole text end (empty_text_mode 5) (so_far_of [] []) k refl; adds = adds_none no_extent c l n }
 
 -- ---- behind the first word
 
@@ -165,14 +135,14 @@ module _ (text : List ℕ) (at : ℕ) (multi : Bool) (e : at ≡ length (word_of
   same_place : (at < m.at → ⊥) → m.at ≡ at
   same_place h = let o = k.skipped.on in omega arith
 
-  pub bracket_opens : m.byte ≡ 40 → read_from text at (word_mode multi at) f ≡ read_from text (m.at + 1) (bracketed multi) f
+  pub bracket_opens : m.byte ≡ Some 40 → read_from text at (word_mode multi at) f ≡ read_from text (m.at + 1) (bracketed multi) f
   bracket_opens o = go (dec_lt at m.at)
     where
       inside : m.at < length text
-      inside = byte_inside text at m k 39 o
+      inside = byte_inside text at m k 40 o
 
       byte : get_or text m.at 0 ≡ 40
-      byte = sym k.byte ∙ o
+      byte = byte_is text at m k 40 o
 
       go : Dec (at < m.at) → read_from text at (word_mode multi at) f ≡ read_from text (m.at + 1) (bracketed multi) f
       go (yes h) = spaced h ∙ leads text m.at (spaced_mode multi) f (bracketed multi) nothing_event inside (ap (next_mode (spaced_mode multi)) byte ∙ spaced_open multi ∙ (opens multi).0) (spaced_silent multi (get_or text m.at 0)) (opens multi).1
@@ -181,17 +151,17 @@ module _ (text : List ℕ) (at : ℕ) (multi : Bool) (e : at ≡ length (word_of
           ∙ leads text m.at (word_mode multi at) f (bracketed multi) nothing_event inside (next_is (get_or text m.at 0) ∙ ap (after_word multi) byte ∙ (opens multi).0) (silent (get_or text m.at 0)) (opens multi).1
 
   -- neither a bracket nor EMPTY behind a space
-  pub neither : (m.byte ≡ 40 → ⊥) → (at < m.at → m.byte ≡ 69 → ⊥) → read_from text at (word_mode multi at) f ≡ breaks m.at
+  pub neither : (m.byte ≡ Some 40 → ⊥) → (at < m.at → m.byte ≡ Some 69 → ⊥) → read_from text at (word_mode multi at) f ≡ breaks m.at
   neither o z = go (dec_lt at m.at) (dec_lt m.at (length text))
     where
       go : Dec (at < m.at) → Dec (m.at < length text) → read_from text at (word_mode multi at) f ≡ breaks m.at
-      go (yes h) (yes i) = spaced h ∙ leaves text m.at (spaced_mode multi) f i (ap (next_mode (spaced_mode multi)) (sym k.byte) ∙ spaced_other multi m.byte (λ s. k.skipped.stops i (sym k.byte ∙ s)) (z h) o)
+      go (yes h) (yes i) = spaced h ∙ leaves text m.at (spaced_mode multi) f i (spaced_other multi (get_or text m.at 0) (k.skipped.stops i) (λ x. z h (byte_there text at m k i ∙ ap Some x)) (λ x. o (byte_there text at m k i ∙ ap Some x)))
       go (yes h) (no i) = spaced h ∙ stops_early text m.at (spaced_mode multi) f (omega arith) refl
-      go (no h) (yes i) = ap (λ j. read_from text j (word_mode multi at) f) (sym (same_place h)) ∙ leaves text m.at (word_mode multi at) f i (next_is (get_or text m.at 0) ∙ ap (after_word multi) (sym k.byte) ∙ after_other multi m.byte (λ s. k.skipped.stops i (sym k.byte ∙ s)) o)
+      go (no h) (yes i) = ap (λ j. read_from text j (word_mode multi at) f) (sym (same_place h)) ∙ leaves text m.at (word_mode multi at) f i (next_is (get_or text m.at 0) ∙ after_other multi (get_or text m.at 0) (k.skipped.stops i) (λ x. o (byte_there text at m k i ∙ ap Some x)))
       go (no h) (no i) = ap (λ j. read_from text j (word_mode multi at) f) (sym (same_place h)) ∙ stops_early text m.at (word_mode multi at) f (omega arith) (early multi at)
 
-  pub empty_begins : at < m.at → m.byte ≡ 69 → read_from text at (word_mode multi at) f ≡ read_from text (m.at + 1) (empty_text_mode 1) f
-  empty_begins h z = spaced h ∙ leads text m.at (spaced_mode multi) f (empty_text_mode 1) nothing_event (byte_inside text at m k 68 z) (ap (next_mode (spaced_mode multi)) (sym k.byte ∙ z) ∙ spaced_empty multi) (spaced_silent multi (get_or text m.at 0)) refl
+  pub empty_begins : at < m.at → m.byte ≡ Some 69 → read_from text at (word_mode multi at) f ≡ read_from text (m.at + 1) (empty_text_mode 1) f
+  empty_begins h z = spaced h ∙ leads text m.at (spaced_mode multi) f (empty_text_mode 1) nothing_event (byte_inside text at m k 69 z) (ap (next_mode (spaced_mode multi)) (byte_is text at m k 69 z) ∙ spaced_empty multi) (spaced_silent multi (get_or text m.at 0)) refl
 
 -- ---- the first word
 
@@ -211,42 +181,38 @@ start_other : (b : ℕ) → (b ≡ 80 → ⊥) → (b ≡ 77 → ⊥) → next_m
 unfolding next_mode
 start_other b p m = rw (ne_eqb b 80 p, ne_eqb b 77 m) refl
 
-some_inside : (text : List ℕ) (b : ℕ) → get_or text 0 0 ≡ suc b → 0 < length text
-some_inside [] b e = absurd (omega arith)
-some_inside (x ∷ text) b e = omega arith
-
 module _ (text : List ℕ) where
-  pub one_starts : get_or text 0 0 ≡ 80 → read_from text 0 start_mode (so_far_of [] []) ≡ read_from text 1 (word_mode false 1) (so_far_of [] [])
-  one_starts e = leads text 0 start_mode (so_far_of [] []) (word_mode false 1) nothing_event (some_inside text 79 e) (ap (next_mode start_mode) e ∙ start_one) (start_silent (get_or text 0 0)) refl
+  module _ (h : 0 < length text) where
+    pub one_starts : get_or text 0 0 ≡ 80 → read_from text 0 start_mode (so_far_of [] []) ≡ read_from text 1 (word_mode false 1) (so_far_of [] [])
+    one_starts e = leads text 0 start_mode (so_far_of [] []) (word_mode false 1) nothing_event h (ap (next_mode start_mode) e ∙ start_one) (start_silent (get_or text 0 0)) refl
 
-  pub many_starts : get_or text 0 0 ≡ 77 → read_from text 0 start_mode (so_far_of [] []) ≡ read_from text 1 (word_mode true 1) (so_far_of [] [])
-  many_starts e = leads text 0 start_mode (so_far_of [] []) (word_mode true 1) nothing_event (some_inside text 76 e) (ap (next_mode start_mode) e ∙ start_many) (start_silent (get_or text 0 0)) refl
+    pub many_starts : get_or text 0 0 ≡ 77 → read_from text 0 start_mode (so_far_of [] []) ≡ read_from text 1 (word_mode true 1) (so_far_of [] [])
+    many_starts e = leads text 0 start_mode (so_far_of [] []) (word_mode true 1) nothing_event h (ap (next_mode start_mode) e ∙ start_many) (start_silent (get_or text 0 0)) refl
 
-  pub none_starts : (get_or text 0 0 ≡ 80 → ⊥) → (get_or text 0 0 ≡ 77 → ⊥) → read_from text 0 start_mode (so_far_of [] []) ≡ breaks 0
-  none_starts p m = go (dec_lt 0 (length text))
-    where
-      go : Dec (0 < length text) → read_from text 0 start_mode (so_far_of [] []) ≡ breaks 0
-      go (yes h) = leaves text 0 start_mode (so_far_of [] []) h (start_other (get_or text 0 0) p m)
-      go (no h) = stops_early text 0 start_mode (so_far_of [] []) (omega arith) refl
+    pub none_starts : (get_or text 0 0 ≡ 80 → ⊥) → (get_or text 0 0 ≡ 77 → ⊥) → read_from text 0 start_mode (so_far_of [] []) ≡ breaks 0
+    none_starts p m = leaves text 0 start_mode (so_far_of [] []) h (start_other (get_or text 0 0) p m)
+
+  pub nothing_starts : length text ≤ 0 → read_from text 0 start_mode (so_far_of [] []) ≡ breaks 0
+  nothing_starts h = stops_early text 0 start_mode (so_far_of [] []) h refl
 
 -- ---- the rest of the first word
 
-module _ (text : List ℕ) (r : ℕ) (m : Matched text 1 (79 ∷ 76 ∷ 89 ∷ 71 ∷ 79 ∷ 78 ∷ []) r) where
-  pub one_cut : r < 6 → read_from text 1 (word_mode false 1) (so_far_of [] []) ≡ breaks (1 + r)
-  one_cut h = word_off text 1 _ _ polygon_spelt r m (so_far_of [] []) h
+pub one_cut : (text : List ℕ) (off : OffGrammar) → WordRead text 1 (79 ∷ 76 ∷ 89 ∷ 71 ∷ 79 ∷ 78 ∷ []) (Err off) → read_from text 1 (word_mode false 1) (so_far_of [] []) ≡ breaks off.place
+one_cut text off w = word_off text 1 _ _ polygon_spelt off w (so_far_of [] [])
 
-  pub one_word : 6 ≤ r → read_from text 1 (word_mode false 1) (so_far_of [] []) ≡ read_from text 7 (word_mode false 7) (so_far_of [] [])
-  one_word h = word_whole text 1 _ _ polygon_spelt r m (so_far_of [] []) h
+pub many_cut : (text : List ℕ) (off : OffGrammar) → WordRead text 1 (85 ∷ 76 ∷ 84 ∷ 73 ∷ 80 ∷ 79 ∷ 76 ∷ 89 ∷ 71 ∷ 79 ∷ 78 ∷ []) (Err off) → read_from text 1 (word_mode true 1) (so_far_of [] []) ≡ breaks off.place
+many_cut text off w = word_off text 1 _ _ multipolygon_spelt off w (so_far_of [] [])
 
-  pub one_inside : 6 ≤ r → 7 ≤ length text
-  one_inside h = word_inside text 1 _ _ polygon_spelt r m (omega arith) h
+module _ (text : List ℕ) (at : ℕ) (w : WordRead text 1 (79 ∷ 76 ∷ 89 ∷ 71 ∷ 79 ∷ 78 ∷ []) (Ok at)) where
+  pub one_word : read_from text 1 (word_mode false 1) (so_far_of [] []) ≡ read_from text at (word_mode false at) (so_far_of [] [])
+  one_word = word_whole text 1 _ _ polygon_spelt at w (so_far_of [] []) ∙ ap (λ k. read_from text at (word_mode false k) (so_far_of [] [])) (sym w.0)
 
-module _ (text : List ℕ) (r : ℕ) (m : Matched text 1 (85 ∷ 76 ∷ 84 ∷ 73 ∷ 80 ∷ 79 ∷ 76 ∷ 89 ∷ 71 ∷ 79 ∷ 78 ∷ []) r) where
-  pub many_cut : r < 11 → read_from text 1 (word_mode true 1) (so_far_of [] []) ≡ breaks (1 + r)
-  many_cut h = word_off text 1 _ _ multipolygon_spelt r m (so_far_of [] []) h
+  pub one_inside : at ≤ length text
+  one_inside = word_inside text 1 _ _ polygon_spelt at w (omega arith)
 
-  pub many_word : 11 ≤ r → read_from text 1 (word_mode true 1) (so_far_of [] []) ≡ read_from text 12 (word_mode true 12) (so_far_of [] [])
-  many_word h = word_whole text 1 _ _ multipolygon_spelt r m (so_far_of [] []) h
+module _ (text : List ℕ) (at : ℕ) (w : WordRead text 1 (85 ∷ 76 ∷ 84 ∷ 73 ∷ 80 ∷ 79 ∷ 76 ∷ 89 ∷ 71 ∷ 79 ∷ 78 ∷ []) (Ok at)) where
+  pub many_word : read_from text 1 (word_mode true 1) (so_far_of [] []) ≡ read_from text at (word_mode true at) (so_far_of [] [])
+  many_word = word_whole text 1 _ _ multipolygon_spelt at w (so_far_of [] []) ∙ ap (λ k. read_from text at (word_mode true k) (so_far_of [] [])) (sym w.0)
 
-  pub many_inside : 11 ≤ r → 12 ≤ length text
-  many_inside h = word_inside text 1 _ _ multipolygon_spelt r m (omega arith) h
+  pub many_inside : at ≤ length text
+  many_inside = word_inside text 1 _ _ multipolygon_spelt at w (omega arith)

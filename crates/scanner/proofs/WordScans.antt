@@ -7,27 +7,42 @@ use native.Mathlib.Decide.{dec_lt}
 use native.Mathlib.Numerals.{add-one}
 use native.Mathlib.Omega.{arith}
 use lib.Dec.{eqb}
-use lib.ListN.{length, get_or, get_or-eq_default}
-use borrow.Author.Tests.{eq-eqb, ne_eqb}
+use lib.ListN.{length, get_or}
+use borrow.Author.Tests.{eq-eqb, ne_eqb, lt-ltb, le-ltb}
+use Rattle.std.specs.Prelude.{Some, None, Ok, Err}
+use Rattle.grammar.specs.declared.OffGrammar.{OffGrammar}
+use Rattle.grammar.specs.Tokens.{byte_at}
 use Rattle.grammar.specs.Words.{polygon, multipolygon, empty}
 use Rattle.grammar.specs.Modes.{Mode, broken_mode, word_mode, empty_text_mode, empty_member_mode, after_member_mode, nothing_event, word_of, next_mode, event_of}
 use Rattle.grammar.specs.Spellings.{breaks}
 use Rattle.grammar.specs.Scans.{SoFar, is_broken, may_end, read_from}
 use Rattle.grammar.proofs.Completions.{NoZero, word_fine, empty_fine}
 use Rattle.grammar.proofs.Steps.{leads, leaves, stops_early, alike}
-use Rattle.scanner.specs.Scanned.{Matched}
+use Rattle.scanner.specs.Scanned.{Matched, WordRead}
+
+-- ---- a byte at a place
+
+pub byte_inside : (text : List ℕ) (at : ℕ) → at < length text → byte_at text at ≡ Some (get_or text at 0)
+byte_inside text at h = ap (λ t. cond t (Some (get_or text at 0)) None) (lt-ltb at (length text) h)
+
+pub byte_found : (text : List ℕ) (at b : ℕ) → byte_at text at ≡ Some b → (at < length text) × (get_or text at 0 ≡ b)
+byte_found text at b e = go (dec_lt at (length text))
+  where
+    go : Dec (at < length text) → (at < length text) × (get_or text at 0 ≡ b)
+    go (yes h) = (h, (let same : Some (get_or text at 0) ≡ Some b = sym (byte_inside text at h) ∙ e in cc))
+    go (no h) = absurd (let none : None ≡ Some b = sym (ap (λ t. cond t (Some (get_or text at 0)) None) (le-ltb at (length text) (omega arith))) ∙ e in let one : ◌≡◌ {A = ℕ} 0 1 = cc in omega arith)
 
 -- ---- the loop over a word
 
-pub none_matched : (text : List ℕ) (at : ℕ) (word : List ℕ) → (j : ℕ) → j < 0 → get_or text (at + j) 0 ≡ get_or word j 0
+pub none_matched : (text : List ℕ) (at : ℕ) (word : List ℕ) → (j : ℕ) → j < 0 → byte_at text (at + j) ≡ Some (get_or word j 0)
 none_matched text at word j h = absurd (omega arith)
 
-pub one_matched : (text : List ℕ) (at : ℕ) (word : List ℕ) (n : ℕ) → ((j : ℕ) → j < n → get_or text (at + j) 0 ≡ get_or word j 0) → get_or text (at + n) 0 ≡ get_or word n 0 → (j : ℕ) → j < n + 1 → get_or text (at + j) 0 ≡ get_or word j 0
+pub one_matched : (text : List ℕ) (at : ℕ) (word : List ℕ) (n : ℕ) → ((j : ℕ) → j < n → byte_at text (at + j) ≡ Some (get_or word j 0)) → byte_at text (at + n) ≡ Some (get_or word n 0) → (j : ℕ) → j < n + 1 → byte_at text (at + j) ≡ Some (get_or word j 0)
 one_matched text at word n u e j h = go (dec_lt j n)
   where
-    go : Dec (j < n) → get_or text (at + j) 0 ≡ get_or word j 0
+    go : Dec (j < n) → byte_at text (at + j) ≡ Some (get_or word j 0)
     go (yes k) = u j k
-    go (no k) = let same : j ≡ n = omega arith in ap (λ i. get_or text (at + i) 0) same ∙ e ∙ ap (λ i. get_or word i 0) (sym same)
+    go (no k) = let same : j ≡ n = omega arith in ap (λ i. byte_at text (at + i)) same ∙ e ∙ ap (λ i. Some (get_or word i 0)) (sym same)
 
 -- ---- a word's modes: so many of its bytes are read
 
@@ -38,34 +53,32 @@ pub record Spelt (mode : ℕ → Mode) (word : List ℕ) : Type 0 where
   pub early : (j : ℕ) → j < length word → may_end (mode j) ≡ false
   pub some : (j : ℕ) → j < length word → get_or word j 0 ≡ 0 → ⊥
 
-module _ (text : List ℕ) (at : ℕ) (mode : ℕ → Mode) (word : List ℕ) (s : Spelt mode word) (r : ℕ) (m : Matched text at word r) where
-  inside : (j : ℕ) → j < r → at + j < length text
-  inside j h = go (dec_lt (at + j) (length text))
-    where
-      go : Dec (at + j < length text) → at + j < length text
-      go (yes k) = k
-      go (no k) = absurd (let l = m.most in s.some j (omega arith) (sym (m.upto j h) ∙ get_or-eq_default text 0 {n = at + j} (omega arith)))
+module _ (text : List ℕ) (at : ℕ) (mode : ℕ → Mode) (word : List ℕ) (s : Spelt mode word) where
+  module _ (r : ℕ) (m : Matched text at word r) where
+    so_far : (f : SoFar) (j : ℕ) → j ≤ r → read_from text at (mode 0) f ≡ read_from text (at + j) (mode j) f
+    so_far f zero h = ap (λ k. read_from text k (mode 0) f) (let e : at ≡ at + 0 = omega arith in e)
+    so_far f (suc j) h =
+        let l = m.most in
+        let b = byte_found text (at + j) (get_or word j 0) (m.upto j (omega arith)) in
+        so_far f j (omega arith)
+        ∙ leads text (at + j) (mode j) f (mode (suc j)) nothing_event b.0 (s.next j (get_or text (at + j) 0) (omega arith) ∙ ap (λ b. cond b (mode (suc j)) broken_mode) (eq-eqb (get_or text (at + j) 0) (get_or word j 0) b.1)) (s.silent j (get_or text (at + j) 0)) (s.whole (suc j))
+        ∙ ap (λ k. read_from text k (mode (suc j)) f) (let e : at + j + 1 ≡ at + suc j = omega arith in e)
 
-  so_far : (f : SoFar) (j : ℕ) → j ≤ r → read_from text at (mode 0) f ≡ read_from text (at + j) (mode j) f
-  so_far f zero h = ap (λ k. read_from text k (mode 0) f) (let e : at ≡ at + 0 = omega arith in e)
-  so_far f (suc j) h =
-      let l = m.most in
-      so_far f j (omega arith)
-      ∙ leads text (at + j) (mode j) f (mode (suc j)) nothing_event (inside j (omega arith)) (s.next j (get_or text (at + j) 0) (omega arith) ∙ ap (λ b. cond b (mode (suc j)) broken_mode) (eq-eqb (get_or text (at + j) 0) (get_or word j 0) (m.upto j (omega arith)))) (s.silent j (get_or text (at + j) 0)) (s.whole (suc j))
-      ∙ ap (λ k. read_from text k (mode (suc j)) f) (let e : at + j + 1 ≡ at + suc j = omega arith in e)
+    off_at : (f : SoFar) → r < length word → read_from text at (mode 0) f ≡ breaks (at + r)
+    off_at f h = so_far f r (omega arith) ∙ go (dec_lt (at + r) (length text))
+      where
+        go : Dec (at + r < length text) → read_from text (at + r) (mode r) f ≡ breaks (at + r)
+        go (yes k) = leaves text (at + r) (mode r) f k (s.next r (get_or text (at + r) 0) h ∙ ap (λ b. cond b (mode (suc r)) broken_mode) (ne_eqb (get_or text (at + r) 0) (get_or word r 0) (λ e. m.stops h (byte_inside text (at + r) k ∙ ap Some e))))
+        go (no k) = stops_early text (at + r) (mode r) f (omega arith) (s.early r h)
 
-  pub word_off : (f : SoFar) → r < length word → read_from text at (mode 0) f ≡ breaks (at + r)
-  word_off f h = so_far f r (omega arith) ∙ go (dec_lt (at + r) (length text))
-    where
-      go : Dec (at + r < length text) → read_from text (at + r) (mode r) f ≡ breaks (at + r)
-      go (yes k) = leaves text (at + r) (mode r) f k (s.next r (get_or text (at + r) 0) h ∙ ap (λ b. cond b (mode (suc r)) broken_mode) (ne_eqb (get_or text (at + r) 0) (get_or word r 0) (m.stops h)))
-      go (no k) = stops_early text (at + r) (mode r) f (omega arith) (s.early r h)
+  pub word_off : (off : OffGrammar) → WordRead text at word (Err off) → (f : SoFar) → read_from text at (mode 0) f ≡ breaks off.place
+  word_off off w f = off_at w.0 w.3 f w.2 ∙ ap breaks (sym w.1)
 
-  pub word_whole : (f : SoFar) → length word ≤ r → read_from text at (mode 0) f ≡ read_from text (at + length word) (mode (length word)) f
-  word_whole f h = so_far f (length word) h
+  pub word_whole : (end : ℕ) → WordRead text at word (Ok end) → (f : SoFar) → read_from text at (mode 0) f ≡ read_from text end (mode (length word)) f
+  word_whole end w f = so_far (length word) w.1 f (length word) (omega arith) ∙ ap (λ k. read_from text k (mode (length word)) f) (sym w.0)
 
-  pub word_inside : 0 < length word → length word ≤ r → at + length word ≤ length text
-  word_inside p h = let i = inside (length word - 1) (omega arith) in omega arith
+  pub word_inside : (end : ℕ) → WordRead text at word (Ok end) → 0 < length word → end ≤ length text
+  word_inside end w p = let b = byte_found text (at + (length word - 1)) (get_or word (length word - 1) 0) (w.1.upto (length word - 1) (omega arith)) in let e = w.0 in let i = b.0 in omega arith
 
 -- ---- the words
 

@@ -1,5 +1,5 @@
 -- How much of a plan a text gives, counted as it is read (document 02, R-1).
-use Rattle.std.specs.Prelude.{Bool, true, false, cond, ◌&&◌, List, ℕ, ◌+◌, ◌≤◌, eqb, length}
+use Rattle.std.specs.Prelude.{Bool, true, false, ◌&&◌, List, ℕ, ◌+◌, ◌≤◌, length, Option, Some, None}
 use Rattle.geom.specs.declared.Point.{Point}
 use Rattle.rules.specs.Lists.{total}
 use Rattle.grammar.specs.Grammar.{Polygon}
@@ -32,10 +32,7 @@ pub record Counted (e : Extent) (most : ℕ) : Type 0 where
   pub rings : e.rings ≤ most
   pub polygons : e.polygons ≤ most
 
--- a ring's first position, which is this one if none came before
-abbrev pub first_of : ℕ → Point → Point → Point
-first_of count first p = cond (eqb count 0) p first
-
--- whether a last position behind so many others closes a ring
-abbrev pub closes : ℕ → Point → Point → Bool
-closes count first p = cond (eqb count 0) false (same_point first p)
+-- whether a last position closes a ring with this first one
+abbrev pub closes : Option Point → Point → Bool
+closes None p = false
+closes (Some first) p = same_point first p

@@ -1,17 +1,17 @@
 -- What scanning each part of a text promises: from the place behind it on the text spells the same, with what the part says built, counted and
 -- stored (document 02, R-1).
-use Rattle.std.specs.Prelude.{◌≡◌, Bool, true, false, List, [], ◌∷◌, ◌++◌, ℕ, ◌+◌, ◌*◌, ◌≤◌, ◌<◌, ℤ, length, get_or, set}
+use Rattle.std.specs.Prelude.{◌≡◌, Bool, true, false, List, [], ◌∷◌, ◌++◌, ℕ, ◌+◌, ◌*◌, ◌≤◌, ◌<◌, ℤ, length, get_or, set, Some, Result, Ok, Err}
+use Rattle.geom.specs.declared.Point.{Point}
+use Rattle.grammar.specs.declared.OffGrammar.{OffGrammar}
 use Rattle.grammar.specs.Grammar.{Ring, Polygon}
-use Rattle.grammar.specs.Modes.{Mode, word_mode, want_member_mode, want_ring_mode, want_x_mode, want_y_mode, after_y_mode, after_ring_mode, after_member_mode, finished_mode, word_of}
-use Rattle.grammar.specs.Numbers.{whole_of}
+use Rattle.grammar.specs.Tokens.{Read, byte_at}
+use Rattle.grammar.specs.Modes.{Mode, word_mode, want_member_mode, want_ring_mode, want_x_mode, after_y_mode, after_ring_mode, after_member_mode, finished_mode, word_of}
 use Rattle.grammar.specs.Spellings.{Spelling, spells, breaks}
 use Rattle.grammar.specs.Scans.{SoFar, place_of, read_from}
 use Rattle.grammar.specs.Texts.{drop_last}
 use Rattle.grammar.specs.Plans.{is_closed, numbers_of, coordinates}
 use Rattle.grammar.specs.Plans as Plans
 use Rattle.scanner.specs.declared.Extent.{Extent}
-use Rattle.scanner.specs.declared.Scan.{Scan}
-use Rattle.scanner.specs.declared.positions.Position.{Position}
 use Rattle.scanner.specs.Puts.{put}
 use Rattle.scanner.specs.Extents.{no_extent, with_ring, with_all, Counted}
 
@@ -21,22 +21,17 @@ so_far_of done rings = record { done = done; rings = rings; ring = [] }
 
 -- ---- a position
 
-abbrev pub after_position : List ℕ → Bool → SoFar → Position → Spelling
-after_position text multi f (Position.At p end) = read_from text end (after_y_mode multi (place_of p)) f
-after_position text multi f (Position.Off place) = breaks place
+abbrev pub after_position : List ℕ → Bool → SoFar → Read Point → Spelling
+after_position text multi f (Ok (p, end)) = read_from text end (after_y_mode multi (place_of p)) f
+after_position text multi f (Err off) = breaks off.place
 
-abbrev pub PositionEnds : List ℕ → ℕ → Position → Type 0
-PositionEnds text at (Position.At p end) = (at < end) × (end ≤ length text)
-PositionEnds text at (Position.Off place) = Unit {0}
+abbrev pub PositionEnds : List ℕ → ℕ → Read Point → Type 0
+PositionEnds text at (Ok (p, end)) = (at < end) × (end ≤ length text)
+PositionEnds text at (Err off) = Unit {0}
 
-pub record PositionRead (text : List ℕ) (at : ℕ) (r : Position) : Type 0 where
+pub record PositionRead (text : List ℕ) (at : ℕ) (r : Read Point) : Type 0 where
   pub ends : PositionEnds text at r
   pub means : (multi : Bool) (f : SoFar) → read_from text at (want_x_mode multi) f ≡ after_position text multi f r
-
--- its y, behind this x
-pub record OrdinateRead (text : List ℕ) (at : ℕ) (x : ℤ) (r : Position) : Type 0 where
-  pub ends : PositionEnds text at r
-  pub means : (multi : Bool) (f : SoFar) → read_from text at (want_y_mode multi (whole_of x)) f ≡ after_position text multi f r
 
 -- ---- a ring, wanted in this mode
 
@@ -50,17 +45,22 @@ pub record RingThere (text : List ℕ) (at : ℕ) (want : Bool → Mode) (e : Ex
   pub inside : end ≤ length text
   pub few : Counted e' end
 
-abbrev pub RingScanned : List ℕ → ℕ → (Bool → Mode) → Extent → List ℤ → List ℤ → List ℕ → List ℕ → Scan → Type 0
-RingScanned text at want e corners corners' lengths lengths' (Scan.Read e' end) = RingThere text at want e corners corners' lengths lengths' e' end
-RingScanned text at want e corners corners' lengths lengths' (Scan.Off place) = (multi : Bool) (done : List Polygon) (rings : Polygon) → read_from text at (want multi) (so_far_of done rings) ≡ breaks place
+abbrev pub RingScanned : List ℕ → ℕ → (Bool → Mode) → Extent → List ℤ → List ℤ → List ℕ → List ℕ → Read Extent → Type 0
+RingScanned text at want e corners corners' lengths lengths' (Ok (e', end)) = RingThere text at want e corners corners' lengths lengths' e' end
+RingScanned text at want e corners corners' lengths lengths' (Err off) = (multi : Bool) (done : List Polygon) (rings : Polygon) → read_from text at (want multi) (so_far_of done rings) ≡ breaks off.place
 
 -- ---- a word
 
 -- so many bytes of it, from its start on, stand at a place
 pub record Matched (text : List ℕ) (at : ℕ) (word : List ℕ) (r : ℕ) : Type 0 where
   pub most : r ≤ length word
-  pub upto : (j : ℕ) → j < r → get_or text (at + j) 0 ≡ get_or word j 0
-  pub stops : r < length word → get_or text (at + r) 0 ≡ get_or word r 0 → ⊥
+  pub upto : (j : ℕ) → j < r → byte_at text (at + j) ≡ Some (get_or word j 0)
+  pub stops : r < length word → byte_at text (at + r) ≡ Some (get_or word r 0) → ⊥
+
+-- all of it, up to the place behind it; or some, up to the place of the first byte that is not the word's
+abbrev pub WordRead : List ℕ → ℕ → List ℕ → Result ℕ OffGrammar → Type 0
+WordRead text at word (Ok end) = (end ≡ at + length word) × Matched text at word (length word)
+WordRead text at word (Err off) = (n : ℕ) × (off.place ≡ at + n) × (n < length word) × Matched text at word n
 
 -- ---- polygons
 
@@ -84,9 +84,9 @@ pub record PolygonThere (text : List ℕ) (at : ℕ) (e : Extent) (corners corne
   pub inside : end ≤ length text
   pub few : Counted e' end
 
-abbrev pub PolygonScanned : List ℕ → ℕ → Extent → List ℤ → List ℤ → List ℕ → List ℕ → List ℕ → List ℕ → Scan → Type 0
-PolygonScanned text at e corners corners' lengths lengths' counts counts' (Scan.Read e' end) = PolygonThere text at e corners corners' lengths lengths' counts counts' e' end
-PolygonScanned text at e corners corners' lengths lengths' counts counts' (Scan.Off place) = (multi : Bool) (done : List Polygon) → read_from text at (want_ring_mode multi) (so_far_of done []) ≡ breaks place
+abbrev pub PolygonScanned : List ℕ → ℕ → Extent → List ℤ → List ℤ → List ℕ → List ℕ → List ℕ → List ℕ → Read Extent → Type 0
+PolygonScanned text at e corners corners' lengths lengths' counts counts' (Ok (e', end)) = PolygonThere text at e corners corners' lengths lengths' counts counts' e' end
+PolygonScanned text at e corners corners' lengths lengths' counts counts' (Err off) = (multi : Bool) (done : List Polygon) → read_from text at (want_ring_mode multi) (so_far_of done []) ≡ breaks off.place
 
 -- a member: a polygon, or EMPTY, which adds none
 pub record MemberThere (text : List ℕ) (at : ℕ) (e : Extent) (corners corners' : List ℤ) (lengths lengths' counts counts' : List ℕ) (e' : Extent) (end : ℕ) : Type 0 where
@@ -97,9 +97,9 @@ pub record MemberThere (text : List ℕ) (at : ℕ) (e : Extent) (corners corner
   pub inside : end ≤ length text
   pub few : Counted e' end
 
-abbrev pub MemberScanned : List ℕ → ℕ → Extent → List ℤ → List ℤ → List ℕ → List ℕ → List ℕ → List ℕ → Scan → Type 0
-MemberScanned text at e corners corners' lengths lengths' counts counts' (Scan.Read e' end) = MemberThere text at e corners corners' lengths lengths' counts counts' e' end
-MemberScanned text at e corners corners' lengths lengths' counts counts' (Scan.Off place) = (done : List Polygon) → read_from text at want_member_mode (so_far_of done []) ≡ breaks place
+abbrev pub MemberScanned : List ℕ → ℕ → Extent → List ℤ → List ℤ → List ℕ → List ℕ → List ℕ → List ℕ → Read Extent → Type 0
+MemberScanned text at e corners corners' lengths lengths' counts counts' (Ok (e', end)) = MemberThere text at e corners corners' lengths lengths' counts counts' e' end
+MemberScanned text at e corners corners' lengths lengths' counts counts' (Err off) = (done : List Polygon) → read_from text at want_member_mode (so_far_of done []) ≡ breaks off.place
 
 -- from this mode on to the end of what is in brackets
 pub record AllThere (text : List ℕ) (at : ℕ) (mode : Mode) (corners corners' : List ℤ) (lengths lengths' counts counts' : List ℕ) (e' : Extent) (end : ℕ) : Type 0 where
@@ -108,9 +108,9 @@ pub record AllThere (text : List ℕ) (at : ℕ) (mode : Mode) (corners corners'
   pub adds : Adds no_extent corners corners' lengths lengths' counts counts' e' polygons
   pub inside : end ≤ length text
 
-abbrev pub AllScanned : List ℕ → ℕ → Mode → List ℤ → List ℤ → List ℕ → List ℕ → List ℕ → List ℕ → Scan → Type 0
-AllScanned text at mode corners corners' lengths lengths' counts counts' (Scan.Read e' end) = AllThere text at mode corners corners' lengths lengths' counts counts' e' end
-AllScanned text at mode corners corners' lengths lengths' counts counts' (Scan.Off place) = read_from text at mode (so_far_of [] []) ≡ breaks place
+abbrev pub AllScanned : List ℕ → ℕ → Mode → List ℤ → List ℤ → List ℕ → List ℕ → List ℕ → List ℕ → Read Extent → Type 0
+AllScanned text at mode corners corners' lengths lengths' counts counts' (Ok (e', end)) = AllThere text at mode corners corners' lengths lengths' counts counts' e' end
+AllScanned text at mode corners corners' lengths lengths' counts counts' (Err off) = read_from text at mode (so_far_of [] []) ≡ breaks off.place
 
 -- ---- a text
 
@@ -120,24 +120,19 @@ pub record TextThere (text : List ℕ) (at : ℕ) (mode : Mode) (corners corners
   pub adds : Adds no_extent corners corners' lengths lengths' counts counts' e' polygons
 
 -- from this mode on to its end
-abbrev pub TextScanned : List ℕ → ℕ → Mode → List ℤ → List ℤ → List ℕ → List ℕ → List ℕ → List ℕ → Scan → Type 0
-TextScanned text at mode corners corners' lengths lengths' counts counts' (Scan.Read e' end) = TextThere text at mode corners corners' lengths lengths' counts counts' e'
-TextScanned text at mode corners corners' lengths lengths' counts counts' (Scan.Off place) = read_from text at mode (so_far_of [] []) ≡ breaks place
+abbrev pub TextScanned : List ℕ → ℕ → Mode → List ℤ → List ℤ → List ℕ → List ℕ → List ℕ → List ℕ → Result Extent OffGrammar → Type 0
+TextScanned text at mode corners corners' lengths lengths' counts counts' (Ok e') = TextThere text at mode corners corners' lengths lengths' counts counts' e'
+TextScanned text at mode corners corners' lengths lengths' counts counts' (Err off) = read_from text at mode (so_far_of [] []) ≡ breaks off.place
 
 -- EMPTY adds nothing, whatever the tables are
-abbrev pub EmptyScanned : List ℕ → ℕ → Mode → Scan → Type 0
+abbrev pub EmptyScanned : List ℕ → ℕ → Mode → Result Extent OffGrammar → Type 0
 EmptyScanned text at mode r = (corners : List ℤ) (lengths counts : List ℕ) → TextScanned text at mode corners corners lengths lengths counts counts r
 
 -- behind either word
-abbrev pub WithoutBrackets : List ℕ → ℕ → Scan → Type 0
+abbrev pub WithoutBrackets : List ℕ → ℕ → Result Extent OffGrammar → Type 0
 WithoutBrackets text at r = (multi : Bool) → at ≡ length (word_of multi) → EmptyScanned text at (word_mode multi at) r
 
--- a scan carried on to the end of the text
-abbrev pub Ended : List ℕ → Scan → Scan → Type 0
-Ended text (Scan.Off place) r = r ≡ Scan.Off place
-Ended text (Scan.Read e end) (Scan.Off place) = (f : SoFar) → read_from text end finished_mode f ≡ breaks place
-Ended text (Scan.Read e end) (Scan.Read e' end') = (e' ≡ e) × ((f : SoFar) → read_from text end finished_mode f ≡ spells f.done)
-
-abbrev pub Within : List ℕ → Scan → Type 0
-Within text (Scan.Off place) = Unit {0}
-Within text (Scan.Read e end) = end ≤ length text
+-- the end of the text, where spaces alone stand
+abbrev pub Ended : List ℕ → ℕ → Result (Unit {0}) OffGrammar → Type 0
+Ended text end (Ok done) = (f : SoFar) → read_from text end finished_mode f ≡ spells f.done
+Ended text end (Err off) = (f : SoFar) → read_from text end finished_mode f ≡ breaks off.place

@@ -5,9 +5,9 @@ ghost use Rattle.scanner.specs.Extents.{Counted};
 ghost use Rattle.scanner.specs.Scanned.{MemberScanned, AllScanned};
 
 use crate::polygons::polygon;
-use crate::words::matched;
-use crate::{Extent, Scan, no_extent};
-use grammar::next_byte;
+use crate::words::word;
+use crate::{Extent, NO_EXTENT};
+use grammar::{OffGrammar, Read, next_byte};
 
 // The member that is wanted at a place of a text.
 fn member(
@@ -17,22 +17,16 @@ fn member(
     lengths: &mut [usize],
     counts: &mut [usize],
     extent: Extent,
-) -> Scan
+) -> Read<Extent>
     requires { (length text.now ≤ 65536) × (at ≤ length text.now) × Counted extent at }
     ensures { MemberScanned text.now at extent corners.old corners.new lengths.old lengths.new counts.old counts.new result }
 {
     let first = next_byte(text, at);
-    if first.byte == b'(' {
-        return polygon(text, first.at + 1, corners, lengths, counts, extent);
+    match first.byte {
+        Some(b'(') => polygon(text, first.at + 1, corners, lengths, counts, extent),
+        Some(b'E') => Ok((extent, word(text, first.at + 1, b"MPTY")?)),
+        _ => Err(OffGrammar { place: first.at }),
     }
-    if first.byte != b'E' {
-        return Scan::Off(first.at);
-    }
-    let n = matched(text, first.at + 1, b"MPTY");
-    if n < 4 {
-        return Scan::Off(first.at + 1 + n);
-    }
-    Scan::Read(extent, first.at + 5)
 }
 
 /// The members from behind the opening bracket on.
@@ -42,27 +36,23 @@ pub(crate) fn members(
     corners: &mut [i64],
     lengths: &mut [usize],
     counts: &mut [usize],
-) -> Scan
+) -> Read<Extent>
     requires { (length text.now ≤ 65536) × (at ≤ length text.now) }
     ensures { AllScanned text.now at want_member_mode corners.old corners.new lengths.old lengths.new counts.old counts.new result }
 {
-    let mut so_far = no_extent();
+    let mut so_far = NO_EXTENT;
     let mut place = at;
     while place < text.len() {
-        match member(text, place, corners, lengths, counts, so_far) {
-            Scan::Off(broken) => return Scan::Off(broken),
-            Scan::Read(more, end) => {
-                let next = next_byte(text, end);
-                if next.byte == b')' {
-                    return Scan::Read(more, next.at + 1);
-                }
-                if next.byte != b',' {
-                    return Scan::Off(next.at);
-                }
+        let (more, end) = member(text, place, corners, lengths, counts, so_far)?;
+        let next = next_byte(text, end);
+        match next.byte {
+            Some(b',') => {
                 so_far = more;
                 place = next.at + 1;
             }
+            Some(b')') => return Ok((more, next.at + 1)),
+            _ => return Err(OffGrammar { place: next.at }),
         }
     }
-    Scan::Off(place)
+    Err(OffGrammar { place })
 }

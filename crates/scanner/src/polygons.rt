@@ -3,10 +3,10 @@ ghost use Rattle.std.specs.Prelude.{◌≡◌, ◌≤◌, length};
 ghost use Rattle.scanner.specs.Extents.{with_polygon, Counted};
 ghost use Rattle.scanner.specs.Scanned.{PolygonScanned};
 
+use crate::Extent;
 use crate::rings::ring_at;
 use crate::tables::store;
-use crate::{Extent, Scan};
-use grammar::next_byte;
+use grammar::{OffGrammar, Read, next_byte};
 
 // The plan with a polygon more.
 fn with_polygon(extent: Extent) -> Extent
@@ -14,10 +14,8 @@ fn with_polygon(extent: Extent) -> Extent
     ensures { result ≡ with_polygon extent }
 {
     Extent {
-        corners: extent.corners,
-        rings: extent.rings,
         polygons: extent.polygons + 1,
-        closed: extent.closed,
+        ..extent
     }
 }
 
@@ -29,28 +27,26 @@ pub(crate) fn polygon(
     lengths: &mut [usize],
     counts: &mut [usize],
     extent: Extent,
-) -> Scan
+) -> Read<Extent>
     requires { (length text.now ≤ 65536) × (at ≤ length text.now) × Counted extent at }
     ensures { PolygonScanned text.now at extent corners.old corners.new lengths.old lengths.new counts.old counts.new result }
 {
     let mut so_far = extent;
     let mut place = at;
     while place < text.len() {
-        match ring_at(text, place, corners, lengths, so_far) {
-            Scan::Off(broken) => return Scan::Off(broken),
-            Scan::Read(more, end) => {
-                let next = next_byte(text, end);
-                if next.byte == b')' {
-                    store(counts, extent.polygons, more.rings - extent.rings);
-                    return Scan::Read(with_polygon(more), next.at + 1);
-                }
-                if next.byte != b',' {
-                    return Scan::Off(next.at);
-                }
+        let (more, end) = ring_at(text, place, corners, lengths, so_far)?;
+        let next = next_byte(text, end);
+        match next.byte {
+            Some(b',') => {
                 so_far = more;
                 place = next.at + 1;
             }
+            Some(b')') => {
+                store(counts, extent.polygons, more.rings - extent.rings);
+                return Ok((with_polygon(more), next.at + 1));
+            }
+            _ => return Err(OffGrammar { place: next.at }),
         }
     }
-    Scan::Off(place)
+    Err(OffGrammar { place })
 }

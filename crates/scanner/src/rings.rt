@@ -1,41 +1,20 @@
 // A ring: positions in brackets, parted by commas. Its last position closes it and is not stored.
 ghost use Rattle.std.specs.Prelude.{◌≡◌, ◌+◌, ◌≤◌, length};
 ghost use Rattle.grammar.specs.Modes.{want_ring_mode, want_x_mode};
-ghost use Rattle.grammar.specs.Plans.{same_point};
-ghost use Rattle.scanner.specs.Extents.{first_of, closes, with_ring, Counted};
+ghost use Rattle.scanner.specs.Extents.{closes, with_ring, Counted};
 ghost use Rattle.scanner.specs.Scanned.{RingScanned};
 
-use crate::positions::{Position, read_position};
+use crate::Extent;
+use crate::positions::read_position;
 use crate::tables::{store, store_corner};
-use crate::{Extent, Scan};
 use geom::Point;
-use grammar::next_byte;
+use grammar::{OffGrammar, Read, next_byte};
 
-// Whether two positions are the same.
-fn same_point(p: Point, q: Point) -> bool
-    ensures { result ≡ same_point p q }
+// Whether a last position closes a ring with this first one. A ring of one position has no other.
+fn closes(first: Option<Point>, p: Point) -> bool
+    ensures { result ≡ closes first p }
 {
-    (p.x == q.x) & (p.y == q.y)
-}
-
-// A ring's first position, which is this one if none came before.
-fn first_of(count: usize, first: Point, p: Point) -> Point
-    ensures { result ≡ first_of count first p }
-{
-    if count == 0 {
-        return p;
-    }
-    first
-}
-
-// Whether a last position behind so many others closes a ring.
-fn closes(count: usize, first: Point, p: Point) -> bool
-    ensures { result ≡ closes count first p }
-{
-    if count == 0 {
-        return false;
-    }
-    same_point(first, p)
+    first == Some(p)
 }
 
 // The plan with a ring of so many corners.
@@ -46,41 +25,44 @@ fn with_ring(extent: Extent, count: usize, closed: bool) -> Extent
     Extent {
         corners: extent.corners + count,
         rings: extent.rings + 1,
-        polygons: extent.polygons,
-        closed: extent.closed & closed,
+        closed: extent.closed && closed,
+        ..extent
     }
 }
 
 // A ring from behind its opening bracket on.
-fn ring(text: &[u8], at: usize, corners: &mut [i64], lengths: &mut [usize], extent: Extent) -> Scan
+fn ring(
+    text: &[u8],
+    at: usize,
+    corners: &mut [i64],
+    lengths: &mut [usize],
+    extent: Extent,
+) -> Read<Extent>
     requires { (length text.now ≤ 65536) × (at ≤ length text.now) × Counted extent at }
     ensures { RingScanned text.now at want_x_mode extent corners.old corners.new lengths.old lengths.new result }
 {
-    let before = extent.corners;
-    let mut first = Point { x: 0, y: 0 };
+    let mut first = None;
     let mut count = 0;
     let mut place = at;
     while place < text.len() {
-        match read_position(text, place) {
-            Position::Off(broken) => return Scan::Off(broken),
-            Position::At(p, end) => {
-                let next = next_byte(text, end);
-                first = first_of(count, first, p);
-                if next.byte == b')' {
-                    let closed = closes(count, first, p);
-                    store(lengths, extent.rings, count);
-                    return Scan::Read(with_ring(extent, count, closed), next.at + 1);
-                }
-                if next.byte != b',' {
-                    return Scan::Off(next.at);
-                }
-                store_corner(corners, before + count, p);
+        let (p, end) = read_position(text, place)?;
+        let next = next_byte(text, end);
+        match next.byte {
+            Some(b',') => {
+                store_corner(corners, extent.corners + count, p);
+                first = Some(first.unwrap_or(p));
                 count += 1;
                 place = next.at + 1;
             }
+            Some(b')') => {
+                store(lengths, extent.rings, count);
+                let ring = with_ring(extent, count, closes(first, p));
+                return Ok((ring, next.at + 1));
+            }
+            _ => return Err(OffGrammar { place: next.at }),
         }
     }
-    Scan::Off(place)
+    Err(OffGrammar { place })
 }
 
 /// The ring that is wanted at a place of a text.
@@ -90,13 +72,13 @@ pub(crate) fn ring_at(
     corners: &mut [i64],
     lengths: &mut [usize],
     extent: Extent,
-) -> Scan
+) -> Read<Extent>
     requires { (length text.now ≤ 65536) × (at ≤ length text.now) × Counted extent at }
     ensures { RingScanned text.now at want_ring_mode extent corners.old corners.new lengths.old lengths.new result }
 {
     let open = next_byte(text, at);
-    if open.byte != b'(' {
-        return Scan::Off(open.at);
+    if open.byte != Some(b'(') {
+        return Err(OffGrammar { place: open.at });
     }
     ring(text, open.at + 1, corners, lengths, extent)
 }

@@ -4,17 +4,8 @@ ghost use Rattle.scanner.specs.Puts.{put};
 
 use geom::Point;
 
-/// Stores a number at place k of a table, if it has one.
-pub(crate) fn store(table: &mut [usize], k: usize, value: usize)
-    ensures { table.new ≡ set table.old k value }
-{
-    if k < table.len() {
-        table[k] = value;
-    }
-}
-
-// Stores a coordinate at place k of a table, if it has one.
-fn store_number(table: &mut [i64], k: usize, value: i64)
+/// Stores a value at place k of a table, if it has one.
+pub(crate) fn store<T: Copy>(table: &mut [T], k: usize, value: T)
     ensures { table.new ≡ set table.old k value }
 {
     if k < table.len() {
@@ -27,6 +18,6 @@ pub(crate) fn store_corner(table: &mut [i64], n: usize, p: Point)
     requires { n ≤ 65536 }
     ensures { table.new ≡ put (2 * n) (p.x ∷ p.y ∷ []) table.old }
 {
-    store_number(table, 2 * n, p.x);
-    store_number(table, 2 * n + 1, p.y);
+    store(table, 2 * n, p.x);
+    store(table, 2 * n + 1, p.y);
 }

@@ -1,20 +1,19 @@
 // Words, compared byte by byte.
 ghost use Rattle.std.specs.Prelude.{◌≤◌, length};
-ghost use Rattle.scanner.specs.Scanned.{Matched};
+ghost use Rattle.scanner.specs.Scanned.{WordRead};
 
-use grammar::byte_at;
+use grammar::OffGrammar;
 
-/// How many bytes of a word, from its start on, stand at a place of a text.
-pub(crate) fn matched(text: &[u8], at: usize, word: &[u8]) -> usize
+/// The place behind a word that is wanted at a place of a text.
+pub(crate) fn word(text: &[u8], at: usize, word: &[u8]) -> Result<usize, OffGrammar>
     requires { (at ≤ 65536) × (length word.now ≤ 12) }
-    ensures { Matched text.now at word.now result }
+    ensures { WordRead text.now at word.now result }
 {
-    let mut n = 0;
-    while n < word.len() {
-        if byte_at(text, at + n) != word[n] {
-            return n;
+    for (n, &byte) in word.iter().enumerate() {
+        let place = at + n;
+        if text.get(place).copied() != Some(byte) {
+            return Err(OffGrammar { place });
         }
-        n += 1;
     }
-    n
+    Ok(at + word.len())
 }

@@ -9,9 +9,9 @@ use Rattle.integers.proofs.Bits.{rd, rd_is}
 use Rattle.geom.specs.declared.Point.{Point}
 use Rattle.rules.specs.declared.Kind.{Kind}
 use Rattle.rules.specs.declared.Location.{Location}
-use Rattle.rules.specs.declared.Reply.{Reply}
 use Rattle.rules.specs.Numbers.{reply_number}
 use Rattle.rules.specs.Plans.{Plan, plan_verdict, answer}
+use Rattle.rules.specs.Answering.{Reply}
 
 pub plan_number : (location : Plan → Point → Location) (kind kind' : Kind) (coordinates : List ℤ) (lengths counts : List ℕ) (x y : ℤ) (reply : Reply) (number : ℤ) → SFits w64 x → SFits w64 y → SFits w64 number → kind ≡ kind'
     → reply ≡ answer (plan_verdict (record { kind = kind; coordinates = coordinates; lengths = lengths; counts = counts })) (location (record { kind = kind; coordinates = coordinates; lengths = lengths; counts = counts }) (record { x = rd x; y = rd y })) → number ≡ reply_number reply

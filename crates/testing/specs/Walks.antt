@@ -1,14 +1,11 @@
 -- A walk's rectangle, cursor, step and place as numbers.
-use Rattle.std.specs.Prelude.{Bool, cond, ℕ}
+use Rattle.std.specs.Prelude.{Bool, cond, ℕ, Option, Some, None, Result, Ok, Err}
 use Rattle.geom.specs.declared.Rect.{Rect}
+use Rattle.rules.specs.declared.Unsound.{Unsound}
 use Rattle.walk.specs.declared.Cursor.{Cursor}
 use Rattle.walk.specs.declared.Query.{Query}
 use Rattle.walk.specs.declared.Query.TheVariants.{Meeting, Holding}
 use Rattle.walk.specs.declared.Step.{Step}
-use Rattle.walk.specs.declared.Step.TheVariants.{Edge, End, Unsound}
-use Rattle.walk.specs.declared.place.Place.{Place}
-use Rattle.walk.specs.declared.place.Place.TheVariants.{At}
-use Rattle.walk.specs.declared.place.Place as Place
 use Rattle.testing.specs.declared.walks.RectNumbers.{RectNumbers}
 use Rattle.testing.specs.declared.walks.CursorNumbers.{CursorNumbers}
 use Rattle.testing.specs.declared.walks.StepNumbers.{StepNumbers}
@@ -27,12 +24,12 @@ abbrev pub query_named : Bool → Rect → Query
 query_named meeting rect = cond meeting (Meeting rect) (Holding rect)
 
 -- 0 an edge, 1 the end, 15 refused; the cursor is as it was where no edge comes
-abbrev pub step_numbers : Step → CursorNumbers → StepNumbers
-step_numbers (Edge e further) cursor = record { what = 0; edge = e; cursor = cursor_numbers further }
-step_numbers End cursor = record { what = 1; edge = 0; cursor = cursor }
-step_numbers Unsound cursor = record { what = 15; edge = 0; cursor = cursor }
+abbrev pub step_numbers : Result (Option Step) Unsound → CursorNumbers → StepNumbers
+step_numbers (Ok (Some step)) cursor = record { what = 0; edge = step.edge; cursor = cursor_numbers step.after }
+step_numbers (Ok None) cursor = record { what = 1; edge = 0; cursor = cursor }
+step_numbers (Err _) cursor = record { what = 15; edge = 0; cursor = cursor }
 
 -- the place, or the greatest number of 64 bits where it is refused
-abbrev pub place_named : Place → ℕ
-place_named (At k) = k
-place_named Place.TheVariants.Unsound = 18446744073709551615
+abbrev pub place_named : Result ℕ Unsound → ℕ
+place_named (Ok k) = k
+place_named (Err _) = 18446744073709551615

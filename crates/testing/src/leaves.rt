@@ -6,8 +6,7 @@ ghost use Rattle.testing.specs.Leaves.{halves_of, PairOf, sign_number, words_val
 
 use geom::{Point, Rect};
 use integers::{
-    Sign, SignedWide, Wide, ceiling_half, difference, floor_half, max, min, signed_product,
-    subtract,
+    Sign, SignedWide, Wide, ceiling_half, difference, floor_half, signed_product, subtract,
 };
 use predicates::{on_segment, orient, turn_words};
 
@@ -72,8 +71,8 @@ pub extern "C" fn testing_pair(a: i64, b: i64) -> Pair
 {
     let d = difference(a, b);
     Pair {
-        least: min(a, b),
-        greatest: max(a, b),
+        least: a.min(b),
+        greatest: a.max(b),
         borrow: d.borrow,
         word: d.word,
     }

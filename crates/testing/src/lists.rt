@@ -1,21 +1,20 @@
 // A list of calls as a whole.
 ghost use Rattle.std.specs.Prelude.{◌≡◌, eqb};
-ghost use Rattle.replay.specs.declared.Outcome.{Outcome};
-ghost use Rattle.replay.specs.Replays.{Replays, replay_number};
+ghost use Rattle.replay.specs.Replays.{Replays, replay_number, Outcome};
 ghost use Rattle.testing.specs.Named.{list_or_tree};
 
 use crate::look_ups::kind_of;
-use replay::{Outcome, replay};
-use rules::refusal_number;
+use replay::{ReplayRefusal, replay};
+use rules::{State, refusal_number};
 
 // 0 where the calls were run, else the refusal number; 11 too where the answer table is too short.
-fn outcome_number(outcome: Outcome) -> usize
+fn outcome_number(outcome: Result<State, ReplayRefusal>) -> usize
     ensures { result ≡ replay_number outcome }
 {
     match outcome {
-        Outcome::Ran(_) => 0,
-        Outcome::Refused(refusal) => refusal_number(refusal),
-        Outcome::AnswersTooShort => 11,
+        Ok(_) => 0,
+        Err(ReplayRefusal::Plan(refusal)) => refusal_number(refusal),
+        Err(ReplayRefusal::AnswersTooShort) => 11,
     }
 }
 

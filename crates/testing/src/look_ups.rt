@@ -9,10 +9,10 @@ ghost use Rattle.states.specs.States.{state_named, Replied};
 ghost use Rattle.testing.specs.Named.{ray_named, list_or_tree};
 
 use geom::Point;
-use prepared::locate::{locate_along, locate_doubled_along};
-use query::{locate, locate_doubled};
-use rules::{Kind, Ray, Refusal, Reply, reply_number};
-use states::{NamedState, StateNumbers, state_of};
+use prepared::locate::locate_along;
+use query::locate;
+use rules::{Kind, Ray, Refusal, Spot, reply_number};
+use states::{StateNumbers, state_of};
 
 // 0 right, 1 left, 2 up, any other number down.
 fn ray_of(number: usize) -> Ray
@@ -51,8 +51,8 @@ pub extern "C" fn testing_locate_along(
     ensures { Replied (state_named state) (λ s reply. Looked s corners.now rings.now polygons.now boxes.now parts.now edges.now (in_range (record { x = x; y = y })) (plan_reply (plan_of s corners.now rings.now polygons.now) (record { x = x; y = y })) reply) result }
 {
     match state_of(state) {
-        NamedState::Unknown => reply_number(Reply::Refused(Refusal::Unsound)),
-        NamedState::Known(known) => reply_number(locate_along(
+        None => reply_number(Err(Refusal::Unsound)),
+        Some(known) => reply_number(locate_along(
             ray_of(ray),
             known,
             corners,
@@ -61,12 +61,12 @@ pub extern "C" fn testing_locate_along(
             boxes,
             parts,
             edges,
-            Point { x: x, y: y },
+            Spot::OnGrid(Point { x, y }),
         )),
     }
 }
 
-/// `prepared::locate::locate_doubled_along` in the same numbers.
+/// `prepared::locate::locate_along` on the half-grid, in the same numbers.
 #[unsafe(no_mangle)]
 pub extern "C" fn testing_locate_doubled_along(
     ray: usize,
@@ -83,8 +83,8 @@ pub extern "C" fn testing_locate_doubled_along(
     ensures { Replied (state_named state) (λ s reply. Looked s corners.now rings.now polygons.now boxes.now parts.now edges.now (in_doubled_range (record { x = x; y = y })) (plan_half_reply (plan_of s corners.now rings.now polygons.now) (record { x = x; y = y })) reply) result }
 {
     match state_of(state) {
-        NamedState::Unknown => reply_number(Reply::Refused(Refusal::Unsound)),
-        NamedState::Known(known) => reply_number(locate_doubled_along(
+        None => reply_number(Err(Refusal::Unsound)),
+        Some(known) => reply_number(locate_along(
             ray_of(ray),
             known,
             corners,
@@ -93,7 +93,7 @@ pub extern "C" fn testing_locate_doubled_along(
             boxes,
             parts,
             edges,
-            Point { x: x, y: y },
+            Spot::Doubled(Point { x, y }),
         )),
     }
 }
@@ -111,11 +111,11 @@ pub extern "C" fn testing_locate_in_plan(
 ) -> i64
     ensures { result ≡ reply_number (answer (plan_verdict (record { kind = list_or_tree (eqb kind 0); coordinates = coordinates.now; lengths = lengths.now; counts = counts.now })) (plan_reply (record { kind = list_or_tree (eqb kind 0); coordinates = coordinates.now; lengths = lengths.now; counts = counts.now }) (record { x = x; y = y }))) }
 {
-    let p = Point { x: x, y: y };
-    reply_number(locate(kind_of(kind == 0), coordinates, lengths, counts, p))
+    let spot = Spot::OnGrid(Point { x, y });
+    reply_number(locate(kind_of(kind == 0), coordinates, lengths, counts, spot))
 }
 
-/// `query::locate_doubled`, likewise.
+/// `query::locate` on the half-grid, likewise.
 #[unsafe(no_mangle)]
 pub extern "C" fn testing_locate_doubled_in_plan(
     kind: usize,
@@ -127,6 +127,6 @@ pub extern "C" fn testing_locate_doubled_in_plan(
 ) -> i64
     ensures { result ≡ reply_number (answer (plan_verdict (record { kind = list_or_tree (eqb kind 0); coordinates = coordinates.now; lengths = lengths.now; counts = counts.now })) (plan_half_reply (record { kind = list_or_tree (eqb kind 0); coordinates = coordinates.now; lengths = lengths.now; counts = counts.now }) (record { x = x; y = y }))) }
 {
-    let p = Point { x: x, y: y };
-    reply_number(locate_doubled(kind_of(kind == 0), coordinates, lengths, counts, p))
+    let spot = Spot::Doubled(Point { x, y });
+    reply_number(locate(kind_of(kind == 0), coordinates, lengths, counts, spot))
 }

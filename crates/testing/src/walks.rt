@@ -1,13 +1,14 @@
 // Walks through the boxes, step by step, and places of edges.
-ghost use Rattle.std.specs.Prelude.{◌≡◌, eqb};
+ghost use Rattle.std.specs.Prelude.{◌≡◌, ℕ, eqb, Option, Result};
+ghost use Rattle.rules.specs.declared.Unsound.{Unsound};
 ghost use Rattle.walk.specs.declared.Step.{Step};
-ghost use Rattle.walk.specs.declared.place.Place.{Place};
 ghost use Rattle.walk.specs.Places.{PlaceSays};
 ghost use Rattle.walk.specs.Steps.{Begun, Says};
 ghost use Rattle.testing.specs.Walks.{cursor_of, cursor_numbers, rect_named, query_named, step_numbers, place_named};
 
 use geom::{Point, Rect};
-use walk::place::{Place, place_of_edge};
+use rules::Unsound;
+use walk::place::place_of_edge;
 use walk::{Cursor, Query, Step, next, start};
 
 /// A rectangle as it crosses the C boundary.
@@ -90,21 +91,21 @@ fn query_of(meeting: bool, rect: Rect) -> Query
     }
 }
 
-fn step_numbers(step: Step, cursor: CursorNumbers) -> StepNumbers
+fn step_numbers(step: Result<Option<Step>, Unsound>, cursor: CursorNumbers) -> StepNumbers
     ensures { result ≡ step_numbers step cursor }
 {
     match step {
-        Step::Edge(edge, further) => StepNumbers {
+        Ok(Some(step)) => StepNumbers {
             what: 0,
-            edge,
-            cursor: numbers_of(further),
+            edge: step.edge,
+            cursor: numbers_of(step.after),
         },
-        Step::End => StepNumbers {
+        Ok(None) => StepNumbers {
             what: 1,
             edge: 0,
             cursor,
         },
-        Step::Unsound => StepNumbers {
+        Err(_) => StepNumbers {
             what: 15,
             edge: 0,
             cursor,
@@ -112,13 +113,10 @@ fn step_numbers(step: Step, cursor: CursorNumbers) -> StepNumbers
     }
 }
 
-fn place_number(place: Place) -> usize
+fn place_number(place: Result<usize, Unsound>) -> usize
     ensures { result ≡ place_named place }
 {
-    match place {
-        Place::At(k) => k,
-        Place::Unsound => usize::MAX,
-    }
+    place.unwrap_or(usize::MAX)
 }
 
 /// `walk::start`.
@@ -142,7 +140,7 @@ pub extern "C" fn testing_next(
     rect: RectNumbers,
     cursor: CursorNumbers,
 ) -> StepNumbers
-    ensures { (step : Step) × Says n boxes.now parts.now edges.now (query_named (eqb holding 0) (rect_named rect)) stack.old (cursor_of cursor) stack.new step × (result ≡ step_numbers step cursor) }
+    ensures { (step : Result (Option Step) Unsound) × Says n boxes.now parts.now edges.now (query_named (eqb holding 0) (rect_named rect)) stack.old (cursor_of cursor) stack.new step × (result ≡ step_numbers step cursor) }
 {
     let step = next(
         stack,
@@ -168,7 +166,7 @@ pub extern "C" fn testing_place_of_edge(
     count: usize,
     e: usize,
 ) -> usize
-    ensures { (place : Place) × PlaceSays n count corners.now rings.now boxes.now parts.now edges.now e place × (result ≡ place_named place) }
+    ensures { (place : Result ℕ Unsound) × PlaceSays n count corners.now rings.now boxes.now parts.now edges.now e place × (result ≡ place_named place) }
 {
     place_number(place_of_edge(corners, rings, boxes, parts, edges, n, count, e))
 }

@@ -3,7 +3,6 @@ use mathlib.Core.Path.{◌≡◌, refl}
 use mathlib.Core.List.{List, [], ◌∷◌, ◌++◌}
 use Prim.Native.Nat.{ℕ}
 use lib.IntN.{pos, negsuc}
-use Rattle.fields.specs.Bytes.{same_bytes}
 use Rattle.fields.specs.Decimals.{digits_within, digits, decimal, worth, value_of, number_of}
 use Rattle.fields.specs.Pieces.{split}
 use Rattle.rules.specs.declared.Kind.TheVariants.{Polygons, Tree}
@@ -35,20 +34,20 @@ minus_three = 45 ∷ 51 ∷ []
 -- ---- plans
 
 bare : meaning (text (plan ∷ [])) ≡ gives_meaning (empty_plan Polygons)
-unfolding meaning after_lines grown record_of one_field split same_bytes
+unfolding meaning after_lines grown record_of one_field split
 bare = refl
 
 listed : meaning (text (plan ⇥ list ∷ [])) ≡ gives_meaning (empty_plan Polygons)
-unfolding meaning after_lines grown record_of two_fields split same_bytes
+unfolding meaning after_lines grown record_of two_fields split
 listed = refl
 
 a_tree : meaning (text (plan ⇥ tree ∷ node ∷ node ∷ [])) ≡ gives_meaning (record { kind = Tree; coordinates = []; lengths = 0 ∷ 0 ∷ []; counts = [] })
-unfolding meaning after_lines grown record_of one_field two_fields split same_bytes
+unfolding meaning after_lines grown record_of one_field two_fields split
 a_tree = refl
 
 -- a polygon of an outer ring with a corner and a hole with two, and a polygon of one empty ring
 rings : meaning (text (plan ∷ outer ∷ at ⇥ zero ⇥ seven ∷ hole ∷ at ⇥ seven ⇥ minus_three ∷ at ⇥ zero ⇥ zero ∷ outer ∷ [])) ≡ gives_meaning (record { kind = Polygons; coordinates = pos 0 ∷ pos 7 ∷ pos 7 ∷ negsuc 2 ∷ pos 0 ∷ pos 0 ∷ []; lengths = 1 ∷ 2 ∷ 0 ∷ []; counts = 2 ∷ 1 ∷ [] })
-unfolding meaning after_lines grown last_one_more record_of one_field three_fields split same_bytes number_of value_of worth decimal digits digits_within
+unfolding meaning after_lines grown last_one_more record_of one_field three_fields split number_of value_of worth decimal digits digits_within
 rings = refl
 
 -- ---- the first line that breaks a rule
@@ -62,52 +61,52 @@ unfolding meaning after_lines split
 unended = refl
 
 last_unended : meaning (text (plan ∷ []) ++ outer) ≡ broken_meaning 2
-unfolding meaning after_lines grown record_of one_field split same_bytes
+unfolding meaning after_lines grown record_of one_field split
 last_unended = refl
 
 blank : meaning (text (plan ∷ [] ∷ outer ∷ [])) ≡ broken_meaning 2
-unfolding meaning after_lines grown record_of one_field split same_bytes
+unfolding meaning after_lines grown record_of one_field split
 blank = refl
 
 carriage_return : meaning (text ((plan ++ 13 ∷ []) ∷ [])) ≡ broken_meaning 1
-unfolding meaning after_lines grown record_of one_field split same_bytes
+unfolding meaning after_lines grown record_of one_field split
 carriage_return = refl
 
 -- "plan list" with a space, and "ring"
 space : meaning (text ((plan ++ 32 ∷ list) ∷ [])) ≡ broken_meaning 1
-unfolding meaning after_lines grown record_of one_field split same_bytes
+unfolding meaning after_lines grown record_of one_field split
 space = refl
 
 unknown_word : meaning (text (plan ∷ outer ∷ (114 ∷ 105 ∷ 110 ∷ 103 ∷ []) ∷ [])) ≡ broken_meaning 3
-unfolding meaning after_lines grown record_of one_field split same_bytes
+unfolding meaning after_lines grown record_of one_field split
 unknown_word = refl
 
 trailing_tab : meaning (text (plan ⇥ [] ∷ [])) ≡ broken_meaning 1
-unfolding meaning after_lines grown record_of two_fields split same_bytes
+unfolding meaning after_lines grown record_of two_fields split
 trailing_tab = refl
 
 hole_first : meaning (text (plan ∷ hole ∷ [])) ≡ broken_meaning 2
-unfolding meaning after_lines grown record_of one_field split same_bytes
+unfolding meaning after_lines grown record_of one_field split
 hole_first = refl
 
 corner_first : meaning (text (plan ∷ at ⇥ zero ⇥ zero ∷ [])) ≡ broken_meaning 2
-unfolding meaning after_lines grown record_of one_field three_fields split same_bytes number_of value_of worth decimal digits digits_within
+unfolding meaning after_lines grown record_of one_field three_fields split number_of value_of worth decimal digits digits_within
 corner_first = refl
 
 node_in_list : meaning (text (plan ∷ outer ∷ node ∷ hole ∷ [])) ≡ broken_meaning 3
-unfolding meaning after_lines grown record_of one_field split same_bytes
+unfolding meaning after_lines grown record_of one_field split
 node_in_list = refl
 
 outer_in_tree : meaning (text (plan ⇥ tree ∷ outer ∷ [])) ≡ broken_meaning 2
-unfolding meaning after_lines grown record_of one_field two_fields split same_bytes
+unfolding meaning after_lines grown record_of one_field two_fields split
 outer_in_tree = refl
 
 second_header : meaning (text (plan ∷ plan ∷ [])) ≡ broken_meaning 2
-unfolding meaning after_lines grown record_of one_field split same_bytes
+unfolding meaning after_lines grown record_of one_field split
 second_header = refl
 
 leading_zero : meaning (text (plan ∷ outer ∷ at ⇥ zero ⇥ (48 ∷ 49 ∷ []) ∷ [])) ≡ broken_meaning 3
-unfolding meaning after_lines grown record_of one_field three_fields split same_bytes number_of value_of worth decimal digits digits_within
+unfolding meaning after_lines grown record_of one_field three_fields split number_of value_of worth decimal digits digits_within
 leading_zero = refl
 
 -- ---- line k

@@ -1,40 +1,39 @@
 -- What reading a text answers, and what the lent tables then hold (document 01, item 10, refusals 1, 2 and 11).
-use Rattle.std.specs.Prelude.{◌≡◌, cond, List, ℕ, ◌*◌, eqb, ltb, ℤ, length}
+use Rattle.std.specs.Prelude.{◌≡◌, cond, List, ℕ, ◌*◌, eqb, ltb, ℤ, length, Err, Ok, Result}
 use Rattle.rules.specs.declared.Refusal.TheVariants.{TextTooLong, BadLine, TableTooShort}
 use Rattle.rules.specs.declared.Table.TheVariants.{Corners, Rings, Polygons}
 use Rattle.rules.specs.Numbers.{refusal_number, refusal_detail}
 use Rattle.lines.specs.declared.Size.{Size}
-use Rattle.text.specs.declared.Reading.{Reading}
-use Rattle.text.specs.declared.Reading.TheVariants.{Read, Refused}
 use Rattle.lines.specs.Plans.{Meaning, start_meaning, gives_meaning, broken_meaning, meaning, size_of}
 use Rattle.lines.specs.Stored.{plan_in, starting_with}
+use Rattle.rules.specs.declared.Refusal.{Refusal}
 
 -- 0 where a plan was read, or the refusal's number
-abbrev pub reading_number : Reading → ℕ
-reading_number (Read size) = 0
-reading_number (Refused refusal) = refusal_number refusal
+abbrev pub reading_number : (Result Size Refusal) → ℕ
+reading_number (Ok size) = 0
+reading_number (Err refusal) = refusal_number refusal
 
 -- 2's line, 11's table, 21's place, and 0 with any other answer; where a plan was read the answer holds its size
-abbrev pub reading_detail : Reading → ℕ
-reading_detail (Read size) = 0
-reading_detail (Refused refusal) = refusal_detail refusal
+abbrev pub reading_detail : (Result Size Refusal) → ℕ
+reading_detail (Ok size) = 0
+reading_detail (Err refusal) = refusal_detail refusal
 
 -- 11: the first table that is too short, of corners (two numbers a corner), rings, polygons
-abbrev pub with_room : Size → ℕ → ℕ → ℕ → Reading
+abbrev pub with_room : Size → ℕ → ℕ → ℕ → Result Size Refusal
 with_room size corners rings polygons =
-    cond (ltb corners (2 * size.corners)) (Refused (TableTooShort Corners))
-    (cond (ltb rings size.rings) (Refused (TableTooShort Rings))
-    (cond (ltb polygons size.polygons) (Refused (TableTooShort Polygons)) (Read size)))
+    cond (ltb corners (2 * size.corners)) (Err (TableTooShort Corners))
+    (cond (ltb rings size.rings) (Err (TableTooShort Rings))
+    (cond (ltb polygons size.polygons) (Err (TableTooShort Polygons)) (Ok size)))
 
 -- 2 with the first line that breaks a rule, else 11; no text comes to `Start` (`never_start`)
-abbrev pub reading_of : Meaning → ℕ → ℕ → ℕ → Reading
-reading_of start_meaning corners rings polygons = Refused (BadLine 1)
+abbrev pub reading_of : Meaning → ℕ → ℕ → ℕ → Result Size Refusal
+reading_of start_meaning corners rings polygons = Err (BadLine 1)
 reading_of (gives_meaning plan) corners rings polygons = with_room (size_of plan) corners rings polygons
-reading_of (broken_meaning line) corners rings polygons = Refused (BadLine line)
+reading_of (broken_meaning line) corners rings polygons = Err (BadLine line)
 
 -- 1, then 2, then 11, for tables of these lengths
-unfoldable pub reading : List ℕ → ℕ → ℕ → ℕ → Reading
-reading text corners rings polygons = cond (ltb 65536 (length text)) (Refused TextTooLong) (reading_of (meaning text) corners rings polygons)
+unfoldable pub reading : List ℕ → ℕ → ℕ → ℕ → Result Size Refusal
+reading text corners rings polygons = cond (ltb 65536 (length text)) (Err TextTooLong) (reading_of (meaning text) corners rings polygons)
 
 -- ---- the same in numbers
 
@@ -63,12 +62,12 @@ detail_due text corners rings polygons = cond (ltb 65536 (length text)) 0 (detai
 -- ---- the call
 
 -- a table after reading
-abbrev pub written : {A : Type 0} → Reading → List A → List A → List A
-written (Read size) xs table = starting_with xs table
-written (Refused refusal) xs table = table
+abbrev pub written : {A : Type 0} → (Result Size Refusal) → List A → List A → List A
+written (Ok size) xs table = starting_with xs table
+written (Err refusal) xs table = table
 
 -- answer and tables of `read_plan`
-pub record PlanRead (text : List ℕ) (corners corners' : List ℤ) (lengths lengths' counts counts' : List ℕ) (r : Reading) : Type 0 where
+pub record PlanRead (text : List ℕ) (corners corners' : List ℤ) (lengths lengths' counts counts' : List ℕ) (r : Result Size Refusal) : Type 0 where
   pub answer : r ≡ reading text (length corners) (length lengths) (length counts)
   pub number : reading_number r ≡ number_due text (length corners) (length lengths) (length counts)
   pub detail : reading_detail r ≡ detail_due text (length corners) (length lengths) (length counts)

@@ -5,9 +5,9 @@ ghost use Rattle.std.specs.Prelude.{◌≡◌};
 ghost use Rattle.text.specs.Lines.{line_of, LineSpan};
 ghost use Rattle.text.specs.Readings.{with_room, reading, PlanRead};
 
-use fields::find;
+use fields::split_once;
 use lines::Size;
-use lines::stages::{Stage, judge};
+use lines::stages::judge;
 use lines::tables::write_plan;
 use rules::{Refusal, Table};
 
@@ -16,44 +16,31 @@ pub mod numbers;
 /// The most bytes that a text may have.
 pub const MAX_TEXT: usize = 65536;
 
-/// What reading a text answers.
-#[derive(Clone, Copy)]
-pub enum Reading {
-    /// The plan is in the tables, and this is its size.
-    Read(Size),
-    /// 1, 2 with its line, or 11 with its table; of Well-Known Text 21 with its place and 22 in the place of 2.
-    Refused(Refusal),
-}
-
 /// Whether tables of so many numbers have room for a plan of this size: it, or 11 (`TableTooShort`) with the first that is too short.
-pub fn room(size: Size, corners: usize, rings: usize, polygons: usize) -> Reading
+pub fn room(size: Size, corners: usize, rings: usize, polygons: usize) -> Result<Size, Refusal>
     ensures { result ≡ with_room size corners rings polygons }
 {
     if corners / 2 < size.corners {
-        return Reading::Refused(Refusal::TableTooShort(Table::Corners));
+        return Err(Refusal::TableTooShort(Table::Corners));
     }
     if rings < size.rings {
-        return Reading::Refused(Refusal::TableTooShort(Table::Rings));
+        return Err(Refusal::TableTooShort(Table::Rings));
     }
     if polygons < size.polygons {
-        return Reading::Refused(Refusal::TableTooShort(Table::Polygons));
+        return Err(Refusal::TableTooShort(Table::Polygons));
     }
-    Reading::Read(size)
+    Ok(size)
 }
 
 // What reading a text into tables that hold so many numbers answers. Nothing is written.
-fn answer(text: &[u8], corners: usize, rings: usize, polygons: usize) -> Reading
+fn answer(text: &[u8], corners: usize, rings: usize, polygons: usize) -> Result<Size, Refusal>
     ensures { result ≡ reading text.now corners rings polygons }
 {
     if MAX_TEXT < text.len() {
-        return Reading::Refused(Refusal::TextTooLong);
+        return Err(Refusal::TextTooLong);
     }
-    match judge(text) {
-        // No text comes to this: an empty one has no header, and is broken in line 1.
-        Stage::Start => Reading::Refused(Refusal::BadLine(1)),
-        Stage::Gives(size) => room(size, corners, rings, polygons),
-        Stage::Broken(line) => Reading::Refused(Refusal::BadLine(line)),
-    }
+    let size = judge(text)?;
+    room(size, corners, rings, polygons)
 }
 
 /// Reads a plan's text into the lent tables: the corners' x, y, x, y, .., the length of each ring, and how many rings each polygon has.
@@ -66,16 +53,12 @@ pub fn read_plan(
     corners: &mut [i64],
     lengths: &mut [usize],
     counts: &mut [usize],
-) -> Reading
+) -> Result<Size, Refusal>
     ensures { PlanRead text.now corners.old corners.new lengths.old lengths.new counts.old counts.new result }
 {
-    match answer(text, corners.len(), lengths.len(), counts.len()) {
-        Reading::Read(found) => {
-            write_plan(text, corners, lengths, counts);
-            Reading::Read(found)
-        }
-        Reading::Refused(refusal) => Reading::Refused(refusal),
-    }
+    let size = answer(text, corners.len(), lengths.len(), counts.len())?;
+    write_plan(text, corners, lengths, counts);
+    Ok(size)
 }
 
 /// A part of a text: where it starts, in bytes from the text's start, and how many bytes it has.
@@ -86,30 +69,34 @@ pub struct Span {
     pub length: usize,
 }
 
+// Where there is no line.
+const NO_LINE: Span = Span {
+    offset: 0,
+    length: 0,
+};
+
 /// Where line k of a text stands, counted from 1 and without its line end. Where there is no line k both numbers are 0. An unended last piece
 /// is a line; behind a last line end that piece is empty and stands at the text's end. Nothing is refused.
 pub fn line_span(text: &[u8], k: usize) -> Span
     ensures { LineSpan text.now k result }
 {
-    let mut number = 1;
-    let mut from = 0;
-    let mut end = find(text, b'\n', from);
-    while (number < k) & (end < text.len()) {
-        number += 1;
-        from = end + 1;
-        end = find(text, b'\n', from);
+    if k == 0 {
+        return NO_LINE;
     }
-    if number == k {
-        let length = end - from;
-        return Span {
-            offset: from,
-            length,
+    let mut offset = 0;
+    let mut rest = text;
+    for _number in 1..k {
+        let Some((line, after)) = split_once(rest, b'\n') else {
+            return NO_LINE;
         };
+        offset += line.len() + 1;
+        rest = after;
     }
-    Span {
-        offset: 0,
-        length: 0,
-    }
+    let length = match split_once(rest, b'\n') {
+        Some((line, _)) => line.len(),
+        None => rest.len(),
+    };
+    Span { offset, length }
 }
 
 /// Line k of a text, counted from 1, as a part of it and without its line end. Empty where there is no line k. An unended last piece is a
@@ -117,8 +104,6 @@ pub fn line_span(text: &[u8], k: usize) -> Span
 pub fn line(text: &[u8], k: usize) -> &[u8]
     ensures { result.now ≡ line_of text.now k }
 {
-    let span = line_span(text, k);
-    let from = span.offset;
-    let end = from + span.length;
-    &text[from..end]
+    let Span { offset, length } = line_span(text, k);
+    &text[offset..offset + length]
 }

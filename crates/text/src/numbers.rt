@@ -2,8 +2,8 @@
 ghost use Rattle.std.specs.Prelude.{◌≡◌};
 ghost use Rattle.text.specs.Numbers.{reading_numbers};
 
-use crate::Reading;
-use rules::{refusal_detail, refusal_number};
+use lines::Size;
+use rules::{Refusal, refusal_detail, refusal_number};
 use states::kind_number;
 
 /// What reading a text answers: the refusal number or 0; the line that refusal 2 names, the table that refusal 11 names, or 0; and the plan's
@@ -20,11 +20,11 @@ pub struct ReadingNumbers {
 }
 
 /// The numbers of what reading a text answers.
-pub fn reading_numbers(reading: Reading) -> ReadingNumbers
+pub fn reading_numbers(reading: Result<Size, Refusal>) -> ReadingNumbers
     ensures { result ≡ reading_numbers reading }
 {
     match reading {
-        Reading::Read(size) => {
+        Ok(size) => {
             let kind = size.kind;
             ReadingNumbers {
                 refusal: 0,
@@ -35,7 +35,7 @@ pub fn reading_numbers(reading: Reading) -> ReadingNumbers
                 polygons: size.polygons,
             }
         }
-        Reading::Refused(refusal) => ReadingNumbers {
+        Err(refusal) => ReadingNumbers {
             refusal: refusal_number(refusal),
             detail: refusal_detail(refusal),
             kind: 0,

@@ -1,7 +1,7 @@
 -- What is looked for in a box is to be found in every box round it, so a node's box that is not entered spares all edges of the node's part.
 -- Assumes nothing.
 use mathlib.Core.Path.{◌≡◌, sym, ap, ◌∙◌}
-use mathlib.Core.Bool.{Bool, true, false, ◌&&◌}
+use mathlib.Core.Bool.{true, false, ◌&&◌}
 use mathlib.Core.List.{List}
 use Prim.Native.Nat.{ℕ, ◌+◌, ◌≤◌, ◌<◌}
 use lib.IntN.{ℤ}
@@ -67,13 +67,6 @@ held_holds r s q h m =
     let low = held_point r s q.min h corners.0 in
     let high = held_point r s q.max h corners.1 in
     λ i. low i && high i
-
--- a test of the one kind or of the other
-pub entered_meeting : (query : Query) (box rect : Rect) (test : Bool) → query ≡ Meeting rect → test ≡ meets box rect → test ≡ enters query box
-entered_meeting query box rect test q e = rw q e
-
-pub entered_holding : (query : Query) (box rect : Rect) (test : Bool) → query ≡ Holding rect → test ≡ holds_rect box rect → test ≡ enters query box
-entered_holding query box rect test q e = rw q e
 
 -- so a box is entered where one that it holds is, whatever is looked for
 pub held_enters : (query : Query) (r s : Rect) → holds_rect r s ≡ true → enters query s ≡ true → enters query r ≡ true

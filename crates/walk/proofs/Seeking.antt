@@ -1,6 +1,7 @@
 -- The search for an edge by a walk that enters only boxes that hold it: the state of the loop, and what its ends say. Assumes nothing.
 use mathlib.Core.Path.{◌≡◌, refl, sym, ap, ◌∙◌}
 use mathlib.Core.Bool.{true, cond}
+use Rattle.std.specs.Prelude.{Result, Ok, Err}
 use mathlib.Core.List.{List, [], ◌∷◌}
 use Prim.Native.Nat.{ℕ, suc, ◌-◌, ◌<◌}
 use native.Mathlib.Omega.{arith}
@@ -8,10 +9,10 @@ use borrow.Author.Tests.{ne_eqb}
 use lib.Dec.{eqb}
 use lib.IntN.{ℤ}
 use lib.ListN.{length, get_or}
-use Rattle.geom.specs.declared.Point.{Point}
 use Rattle.geom.specs.declared.Rect.{Rect}
 use Rattle.geom.specs.Boxes.{rect_of, holds_rect}
 use Rattle.geom.proofs.Boxes.{rect_proper, holds_itself}
+use Rattle.rules.specs.declared.Unsound.{Unsound}
 use Rattle.rules.specs.Edges.{Edge}
 use Rattle.rules.specs.Lists.{count_of}
 use Rattle.rules.specs.Nodes.{node_count}
@@ -20,9 +21,8 @@ use Rattle.boxes.specs.Rings.{edge_of, RingEnds}
 use Rattle.index.proofs.Soundness.{edge_once}
 use Rattle.walk.specs.declared.Cursor.{Cursor}
 use Rattle.walk.specs.declared.Query.TheVariants.{Holding}
-use Rattle.walk.specs.declared.place.Place.{Place}
-use Rattle.walk.specs.declared.place.Place as Place
-use Rattle.walk.specs.declared.place.Place.TheVariants.{At}
+use Rattle.walk.specs.declared.Step.{Step}
+use Rattle.walk.specs.declared.edges.Edge as Found
 use Rattle.walk.specs.Edges.{EdgeFound}
 use Rattle.walk.specs.Places.{StandsAt, IndexReach, WalkedTo, PlaceSays}
 use Rattle.walk.specs.Steps.{WalkSound, Begun, Never, Yields, Ends}
@@ -35,9 +35,9 @@ unfolding edge_box
 own_box corners rings e = holds_itself (edge_box corners rings e) (rect_proper (edge_of corners rings e).0 (edge_of corners rings e).1)
 
 -- the box of the two end points found is the edge's
-pub found_box : (n count : ℕ) (corners : List ℤ) (rings : List ℕ) (e ring : ℕ) (a b : Point) → EdgeFound n count corners rings e ring a b → RingEnds n count rings → edge_box corners rings e ≡ rect_of a b
+pub found_box : (n count : ℕ) (corners : List ℤ) (rings : List ℕ) (e : ℕ) (found : Found.Edge) → EdgeFound n count corners rings e found → RingEnds n count rings → edge_box corners rings e ≡ rect_of found.from found.to
 unfolding edge_box
-found_box n count corners rings e ring a b F R = ap (λ (s : Edge). rect_of s.0 s.1) (sym (F.edge R))
+found_box n count corners rings e found F R = ap (λ (s : Edge). rect_of s.0 s.1) (sym (F.edge_is R))
 
 module _ (n : ℕ) (boxes : List (List ℤ)) (parts : List (List ℕ)) (edges : List ℕ) (wanted : Rect) (e : ℕ) where
   -- on sound tables a walk that has not come to the edge
@@ -60,24 +60,24 @@ module _ (n : ℕ) (boxes : List (List ℤ)) (parts : List (List ℕ)) (edges : 
   }
 
   module _ (stack : List ℕ) (c : Cursor) (S : Seeking stack c) where
-    pub seeking_on : (stack' : List ℕ) (x : ℕ) (c' : Cursor) → length stack' ≡ 18 → Yields n boxes parts edges (Holding wanted) stack c stack' x c' → (x ≡ e → ⊥) → Seeking stack' c'
+    pub seeking_on : (stack' : List ℕ) (step : Step) → length stack' ≡ 18 → Yields n boxes parts edges (Holding wanted) stack c stack' step → (step.edge ≡ e → ⊥) → Seeking stack' step.after
     unfolding count_of
-    seeking_on stack' x c' room Y d = record {
+    seeking_on stack' step room Y d = record {
       room = room;
       nodes = Y.same ∙ S.nodes;
       sought = λ corners rings T.
           let s = S.sought corners rings T in
           record {
-            came = x ∷ s.came;
-            walked = stepped n corners rings boxes parts edges T (Holding wanted) stack c s.came s.walked stack' x c' Y;
-            without = ap (λ b. cond b (suc (count_of (λ y. eqb y e) s.came)) (count_of (λ y. eqb y e) s.came)) (ne_eqb x e d) ∙ s.without;
+            came = step.edge ∷ s.came;
+            walked = stepped n corners rings boxes parts edges T (Holding wanted) stack c s.came s.walked stack' step Y;
+            without = ap (λ b. cond b (suc (count_of (λ y. eqb y e) s.came)) (count_of (λ y. eqb y e) s.came)) (ne_eqb step.edge e d) ∙ s.without;
           };
     }
 
     -- the edge has come: it stands at the place before the cursor's
-    pub seeking_found : (stack' : List ℕ) (x : ℕ) (c' : Cursor) → Yields n boxes parts edges (Holding wanted) stack c stack' x c' → x ≡ e → IndexReach n (length boxes) (length parts) (length edges) × StandsAt n edges e (c'.at - 1)
-    seeking_found stack' x c' Y q =
-        let at : c'.at - 1 ≡ Y.place = omega (arith, Y.next) in
+    pub seeking_found : (stack' : List ℕ) (step : Step) → Yields n boxes parts edges (Holding wanted) stack c stack' step → step.edge ≡ e → IndexReach n (length boxes) (length parts) (length edges) × StandsAt n edges e (step.after.at - 1)
+    seeking_found stack' step Y q =
+        let at : step.after.at - 1 ≡ Y.place = omega (arith, Y.next) in
         let here = ap (λ (k : ℕ). get_or edges k 0) at ∙ Y.read ∙ q in (
           record {
             boxes_reach = omega (arith, Y.lent.boxes_reach, S.nodes);
@@ -88,7 +88,7 @@ module _ (n : ℕ) (boxes : List (List ℤ)) (parts : List (List ℕ)) (edges : 
             one = omega (arith, Y.edge, q);
             inside = omega (arith, Y.inside);
             edge = here;
-            only = λ corners rings boxes parts I j l f. edge_once n corners rings boxes parts edges I j (c'.at - 1) l (omega (arith, Y.inside)) (f ∙ sym here);
+            only = λ corners rings boxes parts I j l f. edge_once n corners rings boxes parts edges I j (step.after.at - 1) l (omega (arith, Y.inside)) (f ∙ sym here);
           },
         )
 
@@ -103,8 +103,8 @@ module _ (n : ℕ) (boxes : List (List ℤ)) (parts : List (List ℕ)) (edges : 
         omega (arith, s.without, (all_met n corners rings boxes parts edges T (Holding wanted) stack c s.came s.walked stack' E).all e h enters)
 
 -- the walk to the box of the edge found answers for the edge
-pub walked_says : (n count : ℕ) (corners : List ℤ) (rings : List ℕ) (boxes : List (List ℤ)) (parts : List (List ℕ)) (edges : List ℕ) (e ring : ℕ) (a b : Point) → EdgeFound n count corners rings e ring a b
-    → (wanted : Rect) → wanted ≡ rect_of a b → (r : Place) → WalkedTo n boxes parts edges wanted e r → PlaceSays n count corners rings boxes parts edges e r
-walked_says n count corners rings boxes parts edges e ring a b F wanted q (At k) w = record { number = refl; plan = record { corners_reach = F.reach; rings_reach = F.rings_reach }; index = w.0; stands = w.1 }
-walked_says n count corners rings boxes parts edges e ring a b F wanted q Place.TheVariants.Unsound w =
-    record { number = refl; never = λ S. w corners rings S.walk F.one (found_box n count corners rings e ring a b F S.edge.ends ∙ sym q) }
+pub walked_says : (n count : ℕ) (corners : List ℤ) (rings : List ℕ) (boxes : List (List ℤ)) (parts : List (List ℕ)) (edges : List ℕ) (e : ℕ) (found : Found.Edge) → EdgeFound n count corners rings e found
+    → (wanted : Rect) → wanted ≡ rect_of found.from found.to → (r : Result ℕ Unsound) → WalkedTo n boxes parts edges wanted e r → PlaceSays n count corners rings boxes parts edges e r
+walked_says n count corners rings boxes parts edges e found F wanted q (Ok k) w = record { number = refl; plan = record { corners_reach = F.reach; rings_reach = F.rings_reach }; index = w.0; stands = w.1 }
+walked_says n count corners rings boxes parts edges e found F wanted q (Err _) w =
+    record { number = refl; never = λ S. w corners rings S.walk F.one (found_box n count corners rings e found F S.edge.ends ∙ sym q) }

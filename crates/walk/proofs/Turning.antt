@@ -1,28 +1,20 @@
 -- One node met, and the state of a step. Assumes nothing.
 use mathlib.Core.Path.{◌≡◌, refl, sym, ap, ◌∙◌, subst}
-use mathlib.Core.Bool.{Bool, true, false, ◌&&◌}
 use mathlib.Core.List.{List}
 use Prim.Native.Nat.{ℕ, ◌+◌, ◌-◌, ◌≤◌, ◌<◌}
 use native.Mathlib.Decide.{dec_lt}
 use native.Mathlib.Omega.{arith}
 use lib.IntN.{ℤ}
 use lib.ListN.{length, get_or}
-use Rattle.rules.proofs.Indexed.{bit}
 use Rattle.index.specs.Build.{KeptFrom, Two}
 use Rattle.index.specs.Parts.{first_at, count_at}
 use Rattle.index.proofs.Soundness.{edge_in}
 use Rattle.index.proofs.Tables.{kept_all, kept_two, kept_both}
 use Rattle.walk.specs.declared.Cursor.{Cursor}
 use Rattle.walk.specs.declared.Query.{Query}
-use Rattle.walk.specs.Steps.{Whether, Inside, Lent, Waiting, MissedTo, LeafFrom, CutInto, after_node, WalkSound, Walking, MissedAt, Turned, Advanced, Halted, Going, Yields, Ends, Refused, at_place}
+use Rattle.walk.specs.Steps.{Inside, Lent, MissedTo, LeafFrom, CutInto, after_node, WalkSound, Walking, MissedAt, Turned, Advanced, Halted, Going, Yields, Ends, Refused, at_place}
 use Rattle.walk.proofs.Missing.{part_missed}
-use Rattle.walk.proofs.Standing.{walking_at, walking_end, top_first, not_all_met, top_inside, top_deep, walking_off, walking_cut}
-
--- a flag made of two tests
-pub whether_both : (A : Type 0) (a b : Bool) → (a ≡ true → b ≡ true → A) → (A → a ≡ true) → (A → b ≡ true) → Whether A (a && b)
-whether_both A true true f g h = f refl refl
-whether_both A true false f g h = λ x. omega (arith, ap bit (h x))
-whether_both A false b f g h = λ x. omega (arith, ap bit (g x))
+use Rattle.walk.proofs.Standing.{walking_at, walking_end, top_first, not_all_met, top_inside, walking_off, walking_cut}
 
 -- ---- one node met
 module _ (n : ℕ) (boxes : List (List ℤ)) (parts : List (List ℕ)) (query : Query) (stack : List ℕ) (c : Cursor) (h : 0 < c.waiting) (few : c.waiting ≤ 18) (e : c.to ≤ c.at) where
@@ -37,9 +29,6 @@ module _ (n : ℕ) (boxes : List (List ℤ)) (parts : List (List ℕ)) (query : 
 
   pub met_outside : (Inside parts n c.nodes top → ⊥) → Halted n boxes parts stack c stack
   met_outside f = record { same = refl; never = λ edges corners rings T S. f (top_inside n corners rings boxes parts edges T stack c S h e) }
-
-  pub met_deep : 8 < count_at parts top → 16 < c.waiting - 1 → Halted n boxes parts stack c stack
-  met_deep b d = record { same = refl; never = λ edges corners rings T S. omega (arith, top_deep n corners rings boxes parts edges T stack c S h e b) }
 
   module _ (m : c.met < c.nodes) where
     pub met_missed : (t : ℕ) → MissedTo boxes parts n c.nodes query top t → Advanced n boxes parts query stack c stack (after_node c (c.waiting - 1) t t)
@@ -117,30 +106,7 @@ module _ (n : ℕ) (boxes : List (List ℤ)) (parts : List (List ℕ)) (edges : 
     unlent = λ g. refl;
   }
 
-  pub going_start : Lent n (length stack) (length boxes) (length parts) (length edges) c → Going n boxes parts edges query stack c stack c
-  going_start L = record {
-    lent = L;
-    space = kept_all 18 stack;
-    same = refl;
-    few = L.few_waiting;
-    inside = L.inside;
-    near = omega arith;
-    stays = λ h. refl;
-    in_hand = λ h. refl;
-    turned = λ corners rings T S. record { walking = S; on = omega arith; over = λ k a b. absurd (omega arith) };
-  }
-
   module _ (stack' : List ℕ) (here : Cursor) (G : Going n boxes parts edges query stack c stack' here) where
-    pub going_waits : 0 < here.waiting → here.to ≤ here.at → Waiting (length stack') (length boxes) (length parts) here
-    going_waits h e = record {
-      stack_reach = omega (arith, G.lent.stack_reach, G.space.long);
-      boxes_reach = omega (arith, G.lent.boxes_reach, G.same);
-      parts_reach = omega (arith, G.lent.parts_reach, G.same);
-      few_waiting = G.few;
-      some = h;
-      passed = e;
-    }
-
     -- no leaf in hand, so there was none at first
     none_in_hand : here.to ≤ here.at → c.at < c.to → ⊥
     none_in_hand e h = omega (arith, e, h, ap (λ (x : Cursor). x.at) (G.stays h), ap (λ (x : Cursor). x.to) (G.stays h))
@@ -198,7 +164,7 @@ module _ (n : ℕ) (boxes : List (List ℤ)) (parts : List (List ℕ)) (edges : 
       unlent = λ f. absurd (f G.lent);
     }
 
-    pub going_yields : here.at < here.to → get_or edges here.at 0 < n → Yields n boxes parts edges query stack c stack' (get_or edges here.at 0) (at_place here (here.at + 1))
+    pub going_yields : here.at < here.to → get_or edges here.at 0 < n → Yields n boxes parts edges query stack c stack' (record { edge = get_or edges here.at 0; after = at_place here (here.at + 1) })
     going_yields l i = record {
       number = refl;
       edge = i;

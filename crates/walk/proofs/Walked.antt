@@ -2,6 +2,7 @@
 -- edges yielded is what all edges in plan order give. Assumes nothing.
 use mathlib.Core.Path.{◌≡◌, refl, sym, ap, ◌∙◌, subst}
 use mathlib.Core.Bool.{Bool, true, false, cond, ◌&&◌, ◌||◌}
+use Rattle.std.specs.Prelude.{Option, Some, None, Result, Ok, Err}
 use mathlib.Core.List.{List, [], ◌∷◌}
 use Prim.Native.Nat.{ℕ, zero, suc, ◌+◌, ◌-◌, ◌≤◌, ◌<◌}
 use native.Mathlib.Decide.{ℕ_discrete, dec_lt}
@@ -16,11 +17,10 @@ use Rattle.rules.proofs.Indexed.{bit, sum_to, count_to, any_to}
 use Rattle.boxes.specs.Boxes.{edge_box}
 use Rattle.boxes.specs.Rings.{start_of, in_ring}
 use Rattle.index.proofs.Soundness.{edge_in, edge_place, edge_once, edges_counted}
+use Rattle.rules.specs.declared.Unsound.{Unsound}
 use Rattle.walk.specs.declared.Cursor.{Cursor}
 use Rattle.walk.specs.declared.Query.{Query}
 use Rattle.walk.specs.declared.Step.{Step}
-use Rattle.walk.specs.declared.Step as Step
-use Rattle.walk.specs.declared.Step.TheVariants.{Edge, End}
 use Rattle.walk.specs.Steps.{step_number, enters, WalkSound, Begun, Over, Never, Yields, Ends, Says}
 use Rattle.walk.specs.Walks.{Yielded, Walked, SomeEdges, AllMet}
 use Rattle.walk.specs.Walks.Yielded.{none, over, edge}
@@ -123,15 +123,15 @@ module _ (n : ℕ) (corners : List ℤ) (rings : List ℕ) (boxes : List (List �
       }
 
   module _ (stack : List ℕ) (c : Cursor) (es : List ℕ) (W : Walked n corners rings parts edges query stack c es) where
-    pub stepped : (stack' : List ℕ) (e : ℕ) (c' : Cursor) → Yields n boxes parts edges query stack c stack' e c' → Walked n corners rings parts edges query stack' c' (e ∷ es)
-    stepped stack' e c' Y =
+    pub stepped : (stack' : List ℕ) (step : Step) → Yields n boxes parts edges query stack c stack' step → Walked n corners rings parts edges query stack' step.after (step.edge ∷ es)
+    stepped stack' step Y =
         let g = Y.went corners rings T W.walking in
         let far = over_to corners rings edges query c.at Y.place es g.on W.yielded g.over in
-        let to : suc Y.place ≡ c'.at = omega (arith, Y.next) in
+        let to : suc Y.place ≡ step.after.at = omega (arith, Y.next) in
         record {
           walking = g.walking;
           yielded =
-              subst (λ (x : ℕ). Yielded corners rings edges query c'.at (x ∷ es)) Y.read
+              subst (λ (x : ℕ). Yielded corners rings edges query step.after.at (x ∷ es)) Y.read
               (subst (λ (k : ℕ). Yielded corners rings edges query k (get_or edges Y.place 0 ∷ es)) to (edge far));
         }
 
@@ -145,10 +145,10 @@ module _ (n : ℕ) (corners : List ℤ) (rings : List ℕ) (boxes : List (List �
     pub never_unsound : Never n boxes parts edges stack c → ⊥
     never_unsound f = f corners rings T W.walking
 
-    pub never_refused : (stack' : List ℕ) (r : Step) → Says n boxes parts edges query stack c stack' r → step_number r ≡ 0
-    never_refused stack' (Edge e c') s = s.number
-    never_refused stack' End s = s.number
-    never_refused stack' Step.TheVariants.Unsound s = absurd (never_unsound s.never)
+    pub never_refused : (stack' : List ℕ) (r : Result (Option Step) Unsound) → Says n boxes parts edges query stack c stack' r → step_number r ≡ 0
+    never_refused stack' (Ok (Some step)) s = s.number
+    never_refused stack' (Ok None) s = s.number
+    never_refused stack' (Err _) s = absurd (never_unsound s.never)
 
     -- at any time: edge numbers, none of them twice
     pub some_edges : SomeEdges n es

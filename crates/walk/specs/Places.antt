@@ -1,21 +1,19 @@
 -- The place of an edge in the edge list (document 01, item 9, refusal 15).
-use Rattle.std.specs.Prelude.{◌≡◌, List, ℕ, ◌*◌, ◌≤◌, ◌<◌, ℤ, length, get_or}
+use Rattle.std.specs.Prelude.{◌≡◌, List, ℕ, ◌*◌, ◌≤◌, ◌<◌, ℤ, length, get_or, Result, Ok, Err}
 use Rattle.geom.specs.declared.Rect.{Rect}
-use Rattle.rules.specs.declared.Refusal.TheVariants.{Unsound}
+use Rattle.rules.specs.declared.Refusal as Refusal
+use Rattle.rules.specs.declared.Unsound.{Unsound}
 use Rattle.rules.specs.Nodes.{node_count}
 use Rattle.rules.specs.Numbers.{refusal_number}
 use Rattle.boxes.specs.Boxes.{edge_box}
 use Rattle.index.specs.Sound.{IndexSound}
-use Rattle.walk.specs.declared.place.Place.{Place}
-use Rattle.walk.specs.declared.place.Place as Place
-use Rattle.walk.specs.declared.place.Place.TheVariants.{At}
 use Rattle.walk.specs.Edges.{EdgeSound}
 use Rattle.walk.specs.Steps.{WalkSound}
 
 -- 0 for a place, or the refusal
-abbrev pub place_number : Place → ℕ
-place_number (At k) = 0
-place_number Place.TheVariants.Unsound = refusal_number Unsound
+abbrev pub place_number : Result ℕ Unsound → ℕ
+place_number (Ok k) = 0
+place_number (Err _) = refusal_number Refusal.TheVariants.Unsound
 
 -- the tables as far as the place of edge e rests on them: an edge of the plan, and a sound index over it
 pub record PlaceSound (n count : ℕ) (corners : List ℤ) (rings : List ℕ) (boxes : List (List ℤ)) (parts : List (List ℕ)) (edges : List ℕ) (e : ℕ) : Type 0 where
@@ -41,22 +39,22 @@ pub record PlanReach (n count corners rings : ℕ) : Type 0 where
 
 -- what a place says
 pub record PlaceFound (n count : ℕ) (corners : List ℤ) (rings : List ℕ) (boxes : List (List ℤ)) (parts : List (List ℕ)) (edges : List ℕ) (e k : ℕ) : Type 0 where
-  pub number : place_number (At k) ≡ 0
+  pub number : place_number (Ok k) ≡ 0
   pub plan : PlanReach n count (length corners) (length rings)
   pub index : IndexReach n (length boxes) (length parts) (length edges)
   pub stands : StandsAt n edges e k
 
 -- a walk to edge e, whose box is the one wanted
-abbrev pub WalkedTo : ℕ → List (List ℤ) → List (List ℕ) → List ℕ → Rect → ℕ → Place → Type 0
-WalkedTo n boxes parts edges wanted e (At k) = IndexReach n (length boxes) (length parts) (length edges) × StandsAt n edges e k
-WalkedTo n boxes parts edges wanted e Place.TheVariants.Unsound =
+abbrev pub WalkedTo : ℕ → List (List ℤ) → List (List ℕ) → List ℕ → Rect → ℕ → Result ℕ Unsound → Type 0
+WalkedTo n boxes parts edges wanted e (Ok k) = IndexReach n (length boxes) (length parts) (length edges) × StandsAt n edges e k
+WalkedTo n boxes parts edges wanted e (Err _) =
     (corners : List ℤ) (rings : List ℕ) → WalkSound n corners rings boxes parts edges → e < n → edge_box corners rings e ≡ wanted → ⊥
 
 -- 15: never for an edge of sound tables
 pub record PlaceRefused (n count : ℕ) (corners : List ℤ) (rings : List ℕ) (boxes : List (List ℤ)) (parts : List (List ℕ)) (edges : List ℕ) (e : ℕ) : Type 0 where
-  pub number : place_number Place.TheVariants.Unsound ≡ 15
+  pub number : place_number (Err (record {})) ≡ 15
   pub never : PlaceSound n count corners rings boxes parts edges e → ⊥
 
-abbrev pub PlaceSays : ℕ → ℕ → List ℤ → List ℕ → List (List ℤ) → List (List ℕ) → List ℕ → ℕ → Place → Type 0
-PlaceSays n count corners rings boxes parts edges e (At k) = PlaceFound n count corners rings boxes parts edges e k
-PlaceSays n count corners rings boxes parts edges e Place.TheVariants.Unsound = PlaceRefused n count corners rings boxes parts edges e
+abbrev pub PlaceSays : ℕ → ℕ → List ℤ → List ℕ → List (List ℤ) → List (List ℕ) → List ℕ → ℕ → Result ℕ Unsound → Type 0
+PlaceSays n count corners rings boxes parts edges e (Ok k) = PlaceFound n count corners rings boxes parts edges e k
+PlaceSays n count corners rings boxes parts edges e (Err _) = PlaceRefused n count corners rings boxes parts edges e

@@ -1,8 +1,9 @@
 -- A walk through the hierarchy of boxes, step by step (document 01, items 5 and 9, refusal 15).
-use Rattle.std.specs.Prelude.{◌≡◌, Bool, true, false, List, ℕ, zero, suc, ◌+◌, ◌-◌, ◌*◌, ◌^◌, ◌≤◌, ◌<◌, ℤ, length, get_or}
+use Rattle.std.specs.Prelude.{◌≡◌, Bool, true, false, List, ℕ, zero, suc, ◌+◌, ◌-◌, ◌*◌, ◌^◌, ◌≤◌, ◌<◌, ℤ, length, get_or, Option, Some, None, Result, Ok, Err}
 use Rattle.geom.specs.declared.Rect.{Rect}
 use Rattle.geom.specs.Boxes.{meets, holds_rect}
-use Rattle.rules.specs.declared.Refusal.TheVariants.{Unsound}
+use Rattle.rules.specs.declared.Refusal as Refusal
+use Rattle.rules.specs.declared.Unsound.{Unsound}
 use Rattle.rules.specs.Nodes.{node_count}
 use Rattle.rules.specs.Numbers.{refusal_number}
 use Rattle.boxes.specs.Boxes.{rect_at, edge_box}
@@ -13,28 +14,20 @@ use Rattle.walk.specs.declared.Cursor.{Cursor}
 use Rattle.walk.specs.declared.Query.{Query}
 use Rattle.walk.specs.declared.Query.TheVariants.{Meeting, Holding}
 use Rattle.walk.specs.declared.Node.{Node}
-use Rattle.walk.specs.declared.Node as Node
 use Rattle.walk.specs.declared.Node.TheVariants.{Missed, Leaf, Cut}
-use Rattle.walk.specs.declared.Turn.{Turn}
-use Rattle.walk.specs.declared.Turn as Turn
-use Rattle.walk.specs.declared.Turn.TheVariants.{On}
-use Rattle.walk.specs.declared.Stop.{Stop}
-use Rattle.walk.specs.declared.Stop as Stop
 use Rattle.walk.specs.declared.Step.{Step}
-use Rattle.walk.specs.declared.Step as Step
-use Rattle.walk.specs.declared.Step.TheVariants.{Edge, End}
 
 -- 0 for an edge or the end, or the refusal
-abbrev pub step_number : Step → ℕ
-step_number (Edge e cursor) = 0
-step_number End = 0
-step_number Step.TheVariants.Unsound = refusal_number Unsound
+abbrev pub step_number : Result (Option Step) Unsound → ℕ
+step_number (Ok (Some step)) = 0
+step_number (Ok None) = 0
+step_number (Err _) = refusal_number Refusal.TheVariants.Unsound
 
 -- and the same up to a leaf
-abbrev pub stop_number : Stop → ℕ
-stop_number (Stop.TheVariants.Leaf cursor) = 0
-stop_number Stop.TheVariants.End = 0
-stop_number Stop.TheVariants.Unsound = refusal_number Unsound
+abbrev pub stop_number : Result (Option Cursor) Unsound → ℕ
+stop_number (Ok (Some here)) = 0
+stop_number (Ok None) = 0
+stop_number (Err _) = refusal_number Refusal.TheVariants.Unsound
 
 -- what is looked for lies in a box: the box is entered. Boxes are closed, so one that meets the rectangle in its rim alone is entered too
 abbrev pub enters : Query → Rect → Bool
@@ -96,11 +89,11 @@ pub record CutInto (boxes : List (List ℤ)) (parts : List (List ℕ)) (n nodes 
   pub big : 8 < count_at parts p
   pub children : child_at parts p + 1 < nodes
 
-abbrev pub NodeSays : List (List ℤ) → List (List ℕ) → ℕ → ℕ → Query → ℕ → Node → Type 0
-NodeSays boxes parts n nodes query p Node.TheVariants.Unsound = Inside parts n nodes p → ⊥
-NodeSays boxes parts n nodes query p (Missed t) = MissedTo boxes parts n nodes query p t
-NodeSays boxes parts n nodes query p (Leaf f t) = LeafFrom boxes parts n nodes query p f t
-NodeSays boxes parts n nodes query p (Cut f l) = CutInto boxes parts n nodes query p f l
+abbrev pub NodeSays : List (List ℤ) → List (List ℕ) → ℕ → ℕ → Query → ℕ → Result Node Unsound → Type 0
+NodeSays boxes parts n nodes query p (Err _) = Inside parts n nodes p → ⊥
+NodeSays boxes parts n nodes query p (Ok (Missed t)) = MissedTo boxes parts n nodes query p t
+NodeSays boxes parts n nodes query p (Ok (Leaf f t)) = LeafFrom boxes parts n nodes query p f t
+NodeSays boxes parts n nodes query p (Ok (Cut f l)) = CutInto boxes parts n nodes query p f l
 
 -- one more node is met
 abbrev pub after_node : Cursor → ℕ → ℕ → ℕ → Cursor
@@ -186,9 +179,9 @@ pub record Halted (n : ℕ) (boxes : List (List ℤ)) (parts : List (List ℕ)) 
   pub same : stack' ≡ stack
   pub never : (edges : List ℕ) → Never n boxes parts edges stack cursor
 
-abbrev pub TurnSays : ℕ → List (List ℤ) → List (List ℕ) → Query → List ℕ → Cursor → List ℕ → Turn → Type 0
-TurnSays n boxes parts query stack cursor stack' (On cursor') = Advanced n boxes parts query stack cursor stack' cursor'
-TurnSays n boxes parts query stack cursor stack' Turn.TheVariants.Unsound = Halted n boxes parts stack cursor stack'
+abbrev pub TurnSays : ℕ → List (List ℤ) → List (List ℕ) → Query → List ℕ → Cursor → List ℕ → Result Cursor Unsound → Type 0
+TurnSays n boxes parts query stack cursor stack' (Ok cursor') = Advanced n boxes parts query stack cursor stack' cursor'
+TurnSays n boxes parts query stack cursor stack' (Err _) = Halted n boxes parts stack cursor stack'
 
 -- ---- a step
 
@@ -200,25 +193,25 @@ pub record Went (n : ℕ) (corners : List ℤ) (rings : List ℕ) (parts : List 
 
 -- an edge: one of n, read at the place before the cursor's, from tables long enough, and nearer to the end. Of the stack only the first 18
 -- numbers may have changed
-pub record Yields (n : ℕ) (boxes : List (List ℤ)) (parts : List (List ℕ)) (edges : List ℕ) (query : Query) (stack : List ℕ) (cursor : Cursor) (stack' : List ℕ) (e : ℕ) (cursor' : Cursor) : Type 0 where
-  pub number : step_number (Edge e cursor') ≡ 0
-  pub edge : e < n
+pub record Yields (n : ℕ) (boxes : List (List ℤ)) (parts : List (List ℕ)) (edges : List ℕ) (query : Query) (stack : List ℕ) (cursor : Cursor) (stack' : List ℕ) (step : Step) : Type 0 where
+  pub number : step_number (Ok (Some step)) ≡ 0
+  pub edge : step.edge < n
   pub place : ℕ
-  pub next : cursor'.at ≡ place + 1
+  pub next : step.after.at ≡ place + 1
   pub inside : place < n
-  pub read : get_or edges place 0 ≡ e
+  pub read : get_or edges place 0 ≡ step.edge
   pub lent : Lent n (length stack) (length boxes) (length parts) (length edges) cursor
-  pub same : cursor'.nodes ≡ cursor.nodes
-  pub lent_next : Lent n (length stack') (length boxes) (length parts) (length edges) cursor'
-  pub less : remaining cursor' < remaining cursor
+  pub same : step.after.nodes ≡ cursor.nodes
+  pub lent_next : Lent n (length stack') (length boxes) (length parts) (length edges) step.after
+  pub less : remaining step.after < remaining cursor
   pub space : KeptFrom 18 stack stack'
-  pub went : (corners : List ℤ) (rings : List ℕ) → WalkSound n corners rings boxes parts edges → Walking n parts stack cursor → Went n corners rings parts edges query cursor place stack' cursor'
+  pub went : (corners : List ℤ) (rings : List ℕ) → WalkSound n corners rings boxes parts edges → Walking n parts stack cursor → Went n corners rings parts edges query cursor place stack' step.after
 
 -- the end, of a step and up to a leaf: on sound tables every place that is left can be passed over. Of the stack, again, only the first 18
 -- numbers may have changed
 pub record Ends (n : ℕ) (boxes : List (List ℤ)) (parts : List (List ℕ)) (edges : List ℕ) (query : Query) (stack : List ℕ) (cursor : Cursor) (stack' : List ℕ) : Type 0 where
-  pub number : step_number End ≡ 0
-  pub leaf_number : stop_number Stop.TheVariants.End ≡ 0
+  pub number : step_number (Ok None) ≡ 0
+  pub leaf_number : stop_number (Ok None) ≡ 0
   pub lent : Lent n (length stack) (length boxes) (length parts) (length edges) cursor
   pub space : KeptFrom 18 stack stack'
   pub over : (corners : List ℤ) (rings : List ℕ) → WalkSound n corners rings boxes parts edges → Walking n parts stack cursor → Over corners rings edges query cursor.at n
@@ -226,8 +219,8 @@ pub record Ends (n : ℕ) (boxes : List (List ℤ)) (parts : List (List ℕ)) (e
 -- 15, of a step and up to a leaf: never on sound tables with a walk that stands so. The stack is working space, of which only the first 18
 -- numbers may have changed, and none where a leaf was in hand, or a table or the stack itself is too short
 pub record Refused (n : ℕ) (boxes : List (List ℤ)) (parts : List (List ℕ)) (edges : List ℕ) (stack : List ℕ) (cursor : Cursor) (stack' : List ℕ) : Type 0 where
-  pub number : step_number Step.TheVariants.Unsound ≡ 15
-  pub leaf_number : stop_number Stop.TheVariants.Unsound ≡ 15
+  pub number : step_number (Err (record {})) ≡ 15
+  pub leaf_number : stop_number (Err (record {})) ≡ 15
   pub never : Never n boxes parts edges stack cursor
   pub space : KeptFrom 18 stack stack'
   pub in_hand : cursor.at < cursor.to → stack' ≡ stack
@@ -250,17 +243,17 @@ pub record Going (n : ℕ) (boxes : List (List ℤ)) (parts : List (List ℕ)) (
 
 -- it has a leaf in hand
 pub record InHand (n : ℕ) (boxes : List (List ℤ)) (parts : List (List ℕ)) (edges : List ℕ) (query : Query) (stack : List ℕ) (cursor : Cursor) (stack' : List ℕ) (here : Cursor) : Type 0 where
-  pub number : stop_number (Stop.TheVariants.Leaf here) ≡ 0
+  pub number : stop_number (Ok (Some here)) ≡ 0
   pub going : Going n boxes parts edges query stack cursor stack' here
   pub some : here.at < here.to
 
-abbrev pub StopSays : ℕ → List (List ℤ) → List (List ℕ) → List ℕ → Query → List ℕ → Cursor → List ℕ → Stop → Type 0
-StopSays n boxes parts edges query stack cursor stack' (Stop.TheVariants.Leaf here) = InHand n boxes parts edges query stack cursor stack' here
-StopSays n boxes parts edges query stack cursor stack' Stop.TheVariants.End = Ends n boxes parts edges query stack cursor stack'
-StopSays n boxes parts edges query stack cursor stack' Stop.TheVariants.Unsound = Refused n boxes parts edges stack cursor stack'
+abbrev pub StopSays : ℕ → List (List ℤ) → List (List ℕ) → List ℕ → Query → List ℕ → Cursor → List ℕ → Result (Option Cursor) Unsound → Type 0
+StopSays n boxes parts edges query stack cursor stack' (Ok (Some here)) = InHand n boxes parts edges query stack cursor stack' here
+StopSays n boxes parts edges query stack cursor stack' (Ok None) = Ends n boxes parts edges query stack cursor stack'
+StopSays n boxes parts edges query stack cursor stack' (Err _) = Refused n boxes parts edges stack cursor stack'
 
 -- ---- an edge
-abbrev pub Says : ℕ → List (List ℤ) → List (List ℕ) → List ℕ → Query → List ℕ → Cursor → List ℕ → Step → Type 0
-Says n boxes parts edges query stack cursor stack' (Edge e cursor') = Yields n boxes parts edges query stack cursor stack' e cursor'
-Says n boxes parts edges query stack cursor stack' End = Ends n boxes parts edges query stack cursor stack'
-Says n boxes parts edges query stack cursor stack' Step.TheVariants.Unsound = Refused n boxes parts edges stack cursor stack'
+abbrev pub Says : ℕ → List (List ℤ) → List (List ℕ) → List ℕ → Query → List ℕ → Cursor → List ℕ → Result (Option Step) Unsound → Type 0
+Says n boxes parts edges query stack cursor stack' (Ok (Some step)) = Yields n boxes parts edges query stack cursor stack' step
+Says n boxes parts edges query stack cursor stack' (Ok None) = Ends n boxes parts edges query stack cursor stack'
+Says n boxes parts edges query stack cursor stack' (Err _) = Refused n boxes parts edges stack cursor stack'

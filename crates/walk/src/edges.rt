@@ -4,40 +4,30 @@ ghost use Rattle.walk.specs.Edges.{RingSays, EdgeSays};
 use boxes::{next_corner, ring_near, ring_of};
 use geom::Point;
 use plans::corner_at;
+use rules::Unsound;
 
 /// An edge by its number.
 #[derive(Clone, Copy)]
-pub enum Edge {
-    /// The number of its ring, and the corners at which it starts and ends.
-    At(usize, Point, Point),
-    /// 15: the edge, its ring or its end is outside its table, or a table is shorter than the state says.
-    Unsound,
-}
-
-// The ring of a corner.
-#[derive(Clone, Copy)]
-pub(crate) enum Ring {
-    At(usize),
-    Unsound,
+pub struct Edge {
+    /// The number of its ring.
+    pub ring: usize,
+    /// The corner at which it starts.
+    pub from: Point,
+    /// The corner at which it ends.
+    pub to: Point,
 }
 
 // The ring of corner e among the first `count`, where ring `near` is tried first if there is one.
-fn ring_at(rings: &[usize], count: usize, e: usize, near: usize) -> Ring
+fn ring_at(rings: &[usize], count: usize, e: usize, near: usize) -> Result<usize, Unsound>
     ensures { RingSays rings.now count e result }
 {
-    if count == 0 {
-        return Ring::Unsound;
-    }
-    if rings.len() < count {
-        return Ring::Unsound;
-    }
-    if rings[count - 1] <= e {
-        return Ring::Unsound;
+    if count == 0 || rings.len() < count || rings[count - 1] <= e {
+        return Err(Unsound);
     }
     if near < count {
-        return Ring::At(ring_near(rings, count, e, near));
+        return Ok(ring_near(rings, count, e, near));
     }
-    Ring::At(ring_of(rings, count, e))
+    Ok(ring_of(rings, count, e))
 }
 
 /// Edge e of the n edges of `count` rings: its ring and its two end points. Ring `near` is tried first, whatever its number: edges that
@@ -52,23 +42,20 @@ pub fn edge_at(
     count: usize,
     e: usize,
     near: usize,
-) -> Edge
+) -> Result<Edge, Unsound>
     ensures { EdgeSays corners.now rings.now n count e result }
 {
-    if n <= e {
-        return Edge::Unsound;
+    if n <= e || corners.len() / 2 < n {
+        return Err(Unsound);
     }
-    if corners.len() / 2 < n {
-        return Edge::Unsound;
+    let ring = ring_at(rings, count, e, near)?;
+    let next = next_corner(rings, ring, e);
+    if n <= next {
+        return Err(Unsound);
     }
-    match ring_at(rings, count, e, near) {
-        Ring::Unsound => Edge::Unsound,
-        Ring::At(ring) => {
-            let next = next_corner(rings, ring, e);
-            if n <= next {
-                return Edge::Unsound;
-            }
-            Edge::At(ring, corner_at(corners, e), corner_at(corners, next))
-        }
-    }
+    Ok(Edge {
+        ring,
+        from: corner_at(corners, e),
+        to: corner_at(corners, next),
+    })
 }

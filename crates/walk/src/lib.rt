@@ -15,6 +15,7 @@ use geom::Rect;
 pub use index::build::STACK;
 use index::build::{LEAF, push};
 use index::count::node_count;
+use rules::Unsound;
 
 /// What a walk looks for, and so which boxes it enters.
 #[derive(Clone, Copy)]
@@ -36,47 +37,22 @@ pub struct Cursor {
     pub to: usize,
 }
 
-/// What a walk comes to when it goes on to a leaf.
+/// A step of a walk: the next edge number, and where the walk stands after it.
 #[derive(Clone, Copy)]
-pub enum Stop {
-    /// Where the walk stands with a leaf in hand: its places from `at` up to `to` are left, and there is one.
-    Leaf(Cursor),
-    /// No leaf is left.
-    End,
-    /// 15, as of a step.
-    Unsound,
-}
-
-/// What a step of a walk gives.
-#[derive(Clone, Copy)]
-pub enum Step {
-    /// The next edge number, and where the walk stands after it.
-    Edge(usize, Cursor),
-    /// No edge is left.
-    End,
-    /// 15: a number outside its table, more nodes met than the index has, more than 18 waiting, or a table or the stack too
-    /// short.
-    Unsound,
+pub struct Step {
+    pub edge: usize,
+    pub after: Cursor,
 }
 
 // What a node asks of a walk.
 #[derive(Clone, Copy)]
 pub(crate) enum Node {
-    // one of its numbers is outside its table
-    Unsound,
     // its box is not entered; its part ends at this place
     Missed(usize),
     // a leaf, with the places from one to another
     Leaf(usize, usize),
     // cut: its part starts at this place, and its left child stands at that one
     Cut(usize, usize),
-}
-
-// A node met: where the walk stands after it, or 15.
-#[derive(Clone, Copy)]
-pub(crate) enum Turn {
-    On(Cursor),
-    Unsound,
 }
 
 // Whether the stack, which has room for so many, and the tables are as long as the state says, and the cursor's numbers within them.
@@ -90,19 +66,12 @@ fn lent_enough(
 ) -> bool
     ensures { Whether (Lent n room (length boxes.now) (length parts.now) (length edges.now) cursor) result }
 {
-    if room < STACK {
-        return false;
-    }
-    if boxes.len() < cursor.nodes {
-        return false;
-    }
-    if parts.len() < cursor.nodes {
-        return false;
-    }
-    if edges.len() < n {
-        return false;
-    }
-    (cursor.waiting <= STACK) & (cursor.to <= n)
+    STACK <= room
+        && cursor.nodes <= boxes.len()
+        && cursor.nodes <= parts.len()
+        && n <= edges.len()
+        && cursor.waiting <= STACK
+        && cursor.to <= n
 }
 
 // Whether a node with this box is entered.
@@ -115,7 +84,7 @@ fn is_entered(query: Query, rect: Rect) -> bool
     }
 }
 
-// What node p asks, with every number that it names tested.
+// What node p asks, with every number that it names tested: 15 where one is outside its table.
 fn node_at(
     boxes: &[[i64; 4]],
     parts: &[[usize; 3]],
@@ -123,32 +92,27 @@ fn node_at(
     nodes: usize,
     query: Query,
     p: usize,
-) -> Node
+) -> Result<Node, Unsound>
     requires { (nodes ≤ length boxes.now) × (nodes ≤ length parts.now) }
     ensures { NodeSays boxes.now parts.now n nodes query p result }
 {
     if nodes <= p {
-        return Node::Unsound;
+        return Err(Unsound);
     }
-    let first = parts[p][0];
-    let count = parts[p][1];
-    if n < first {
-        return Node::Unsound;
-    }
-    if n - first < count {
-        return Node::Unsound;
+    let [first, count, child] = parts[p];
+    if n < first || n - first < count {
+        return Err(Unsound);
     }
     if !is_entered(query, rect_at(boxes, p)) {
-        return Node::Missed(first + count);
+        return Ok(Node::Missed(first + count));
     }
     if count <= LEAF {
-        return Node::Leaf(first, first + count);
+        return Ok(Node::Leaf(first, first + count));
     }
-    let child = parts[p][2];
     if nodes - 1 <= child {
-        return Node::Unsound;
+        return Err(Unsound);
     }
-    Node::Cut(first, child)
+    Ok(Node::Cut(first, child))
 }
 
 // Where a walk stands when one more node is met.
@@ -157,16 +121,16 @@ fn after_node(cursor: Cursor, waiting: usize, at: usize, to: usize) -> Cursor
     ensures { result ≡ after_node cursor waiting at to }
 {
     Cursor {
-        nodes: cursor.nodes,
         waiting,
         met: cursor.met + 1,
         at,
         to,
+        ..cursor
     }
 }
 
 // Takes the top node off the stack: a leaf comes in hand, the children of a cut node wait in its place, left on top, and a node whose
-// box is not entered is passed over with all that is below it.
+// box is not entered is passed over with all that is below it. Gives where the walk stands after the node, or 15.
 fn meet_node(
     stack: &mut [usize],
     boxes: &[[i64; 4]],
@@ -174,26 +138,24 @@ fn meet_node(
     n: usize,
     query: Query,
     cursor: Cursor,
-) -> Turn
+) -> Result<Cursor, Unsound>
     requires { Waiting (length stack.old) (length boxes.now) (length parts.now) cursor }
     ensures { TurnSays n boxes.now parts.now query stack.old cursor stack.new result }
 {
-    let nodes = cursor.nodes;
-    if nodes <= cursor.met {
-        return Turn::Unsound;
+    if cursor.nodes <= cursor.met {
+        return Err(Unsound);
     }
     let top = cursor.waiting - 1;
-    match node_at(boxes, parts, n, nodes, query, stack[top]) {
-        Node::Unsound => Turn::Unsound,
-        Node::Missed(end) => Turn::On(after_node(cursor, top, end, end)),
-        Node::Leaf(first, end) => Turn::On(after_node(cursor, top, first, end)),
+    match node_at(boxes, parts, n, cursor.nodes, query, stack[top])? {
+        Node::Missed(end) => Ok(after_node(cursor, top, end, end)),
+        Node::Leaf(first, end) => Ok(after_node(cursor, top, first, end)),
         Node::Cut(first, left) => {
             // the two children take the places top and top + 1
             if STACK - 2 < top {
-                return Turn::Unsound;
+                return Err(Unsound);
             }
             push(stack, top, left + 1, left);
-            Turn::On(after_node(cursor, top + 2, first, first))
+            Ok(after_node(cursor, top + 2, first, first))
         }
     }
 }
@@ -211,9 +173,9 @@ pub fn start(n: usize) -> Cursor
     }
 }
 
-/// The next leaf of a walk that looks for what the query says, or the end. A walk that has a leaf in hand stays where it is. The tables
-/// are only read; what the stack is, and when 15 (`Unsound`) comes, is as `next` has it, but for edge numbers: whoever takes them tests
-/// them.
+/// The next leaf of a walk that looks for what the query says: where the walk stands with the leaf in hand, whose places from `at` up to
+/// `to` are left, one at least, or `None` at the end. A walk that has a leaf in hand stays where it is. The tables are only read; what the
+/// stack is, and when 15 (`Unsound`) comes, is as `next` has it, but for edge numbers: whoever takes them tests them.
 ///
 /// On sound tables, with a cursor and a stack as `start` and earlier calls left them, no edge of the places passed over on the way has a
 /// box that the query enters. Whoever takes the leaf's edges goes on from its end, with `to` as `at`.
@@ -225,40 +187,27 @@ pub fn next_leaf(
     n: usize,
     query: Query,
     cursor: Cursor,
-) -> Stop
+) -> Result<Option<Cursor>, Unsound>
     ensures { StopSays n boxes.now parts.now edges.now query stack.old cursor stack.new result }
 {
     if !lent_enough(stack.len(), boxes, parts, edges, n, cursor) {
-        return Stop::Unsound;
+        return Err(Unsound);
     }
     let mut here = cursor;
     while here.to <= here.at {
         if here.waiting == 0 {
-            return Stop::End;
+            return Ok(None);
         }
-        match meet_node(stack, boxes, parts, n, query, here) {
-            Turn::Unsound => {
-                return Stop::Unsound;
-            }
-            Turn::On(further) => {
-                here = further;
-            }
-        }
+        here = meet_node(stack, boxes, parts, n, query, here)?;
     }
-    Stop::Leaf(here)
+    Ok(Some(here))
 }
 
 // The walk at another place of the leaf in hand.
 fn at_place(cursor: Cursor, at: usize) -> Cursor
     ensures { result ≡ at_place cursor at }
 {
-    Cursor {
-        nodes: cursor.nodes,
-        waiting: cursor.waiting,
-        met: cursor.met,
-        at,
-        to: cursor.to,
-    }
+    Cursor { at, ..cursor }
 }
 
 /// The walk past the leaf in hand.
@@ -268,9 +217,9 @@ pub fn past_leaf(cursor: Cursor) -> Cursor
     at_place(cursor, cursor.to)
 }
 
-/// The next edge of a walk that looks for what the query says, with the walk after it, or the end. The tables are only read. The stack
-/// is working space and no table of the plan: an array of `STACK` numbers that the caller keeps for the length of one walk and lends to
-/// each step. Whatever a step gives, of the stack it may have changed the first `STACK` numbers and no other. One that is refused leaves
+/// The next edge of a walk that looks for what the query says, with the walk after it, or `None` at the end. The tables are only read. The
+/// stack is working space and no table of the plan: an array of `STACK` numbers that the caller keeps for the length of one walk and lends
+/// to each step. Whatever a step gives, of the stack it may have changed the first `STACK` numbers and no other. One that is refused leaves
 /// every table as it was, and the stack too where a leaf was in hand or a table or the stack is too short.
 ///
 /// On sound tables, with a cursor and a stack as `start` and earlier steps left them, every edge whose box the query enters comes, none
@@ -285,19 +234,18 @@ pub fn next(
     n: usize,
     query: Query,
     cursor: Cursor,
-) -> Step
+) -> Result<Option<Step>, Unsound>
     ensures { Says n boxes.now parts.now edges.now query stack.old cursor stack.new result }
 {
-    match next_leaf(stack, boxes, parts, edges, n, query, cursor) {
-        Stop::Unsound => Step::Unsound,
-        Stop::End => Step::End,
-        Stop::Leaf(here) => {
-            let at = here.at;
-            let e = edges[at];
-            if n <= e {
-                return Step::Unsound;
-            }
-            Step::Edge(e, at_place(here, at + 1))
-        }
+    let Some(here) = next_leaf(stack, boxes, parts, edges, n, query, cursor)? else {
+        return Ok(None);
+    };
+    let edge = edges[here.at];
+    if n <= edge {
+        return Err(Unsound);
     }
+    Ok(Some(Step {
+        edge,
+        after: at_place(here, here.at + 1),
+    }))
 }

@@ -2,18 +2,10 @@
 // of the edge list).
 ghost use Rattle.walk.specs.Places.{WalkedTo, PlaceSays};
 
-use crate::edges::{Edge, edge_at};
-use crate::{Query, STACK, Step, next, start};
+use crate::edges::edge_at;
+use crate::{Query, STACK, next, start};
 use geom::Rect;
-
-/// Where an edge stands in the edge list.
-#[derive(Clone, Copy)]
-pub enum Place {
-    /// The place.
-    At(usize),
-    /// 15: no such edge, a number outside its table, a table shorter than the state says, or a walk that ended without the edge.
-    Unsound,
-}
+use rules::Unsound;
 
 // The place of edge e, found by a walk that enters only boxes that hold `wanted`, the box of the edge.
 fn walk_to(
@@ -23,35 +15,26 @@ fn walk_to(
     n: usize,
     wanted: Rect,
     e: usize,
-) -> Place
+) -> Result<usize, Unsound>
     ensures { WalkedTo n boxes.now parts.now edges.now wanted e result }
 {
     let mut stack: [usize; STACK] = [0; STACK];
     let mut cursor = start(n);
-    loop {
-        match next(
-            &mut stack,
-            boxes,
-            parts,
-            edges,
-            n,
-            Query::Holding(wanted),
-            cursor,
-        ) {
-            Step::Edge(yielded, further) => {
-                if yielded == e {
-                    return Place::At(further.at - 1);
-                }
-                cursor = further;
-            }
-            Step::End => {
-                return Place::Unsound;
-            }
-            Step::Unsound => {
-                return Place::Unsound;
-            }
+    while let Some(step) = next(
+        &mut stack,
+        boxes,
+        parts,
+        edges,
+        n,
+        Query::Holding(wanted),
+        cursor,
+    )? {
+        if step.edge == e {
+            return Ok(step.after.at - 1);
         }
+        cursor = step.after;
     }
+    Err(Unsound)
 }
 
 /// The place of edge e in the edge list of n edges, found by a walk that enters only the boxes that hold the edge. No table is written.
@@ -67,11 +50,9 @@ pub fn place_of_edge(
     n: usize,
     count: usize,
     e: usize,
-) -> Place
+) -> Result<usize, Unsound>
     ensures { PlaceSays n count corners.now rings.now boxes.now parts.now edges.now e result }
 {
-    match edge_at(corners, rings, n, count, e, 0) {
-        Edge::Unsound => Place::Unsound,
-        Edge::At(_, a, b) => walk_to(boxes, parts, edges, n, Rect::new(a, b), e),
-    }
+    let edge = edge_at(corners, rings, n, count, e, 0)?;
+    walk_to(boxes, parts, edges, n, Rect::new(edge.from, edge.to), e)
 }

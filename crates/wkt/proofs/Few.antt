@@ -1,4 +1,5 @@
 -- A plan that was read from Well-Known Text is accepted, and it is no larger than the largest text can say. Assumes nothing.
+use Rattle.std.specs.Prelude.{Ok}
 use mathlib.Core.Path.{◌≡◌, refl, sym, ap, subst, ◌∙◌}
 use mathlib.Core.Bool.{Bool, true, false, not, ◌||◌, true≢false}
 use mathlib.Core.List.{List, [], ◌∷◌, ◌++◌}
@@ -11,7 +12,6 @@ use borrow.Author.Tests.{eq-eqb, ne_eqb}
 use Rattle.fields.specs.Decimals.{decimal}
 use Rattle.fields.proofs.Bytes.{both}
 use Rattle.fields.proofs.Written.{digits_some}
-use Rattle.rules.specs.declared.Verdict.TheVariants.{Accepted}
 use Rattle.rules.specs.Lists.{any_of, total, is_odd}
 use Rattle.rules.specs.Plans.{corner_count, uneven, plan_verdict}
 use Rattle.rules.proofs.Verdicts.{few_enough, accepted_else}
@@ -21,11 +21,11 @@ use Rattle.grammar.specs.Spellings.{spells, Means}
 use Rattle.grammar.specs.Scans.{spelling}
 use Rattle.grammar.specs.Plans.{ends_at, is_closed, all_closed, every_closed, coordinates, ring_lengths, lengths, counts, plan_spelt}
 use Rattle.lines.specs.declared.Size.{Size}
-use Rattle.text.specs.declared.Reading.TheVariants.{Read}
 use Rattle.grammar.proofs.Means.{means}
 use Rattle.grammar.proofs.Tables.{total_append, coordinates_twice, lengths_counted}
 use Rattle.wkt.specs.Readings.{plan_in, WktRead}
 use Rattle.wkt.proofs.Readings.{Given, given}
+use Rattle.rules.specs.Answering.{Accepted}
 
 -- what a text of n bytes can hold, and one of the largest size: 16,380 corners, 6,552 rings, 5,460 polygons
 pub record Largest (n corners rings polygons : ℕ) : Type 0 where
@@ -225,7 +225,7 @@ module _ (text : List ℕ) (polygons : List Polygon) (small : length text ≤ 65
 
 -- ---- a plan that `read_wkt` has read
 
-module _ (text : List ℕ) (c c' : List ℤ) (l l' n n' : List ℕ) (size : Size) (g : WktRead text c c' l l' n n' (Read size)) where
+module _ (text : List ℕ) (c c' : List ℤ) (l l' n n' : List ℕ) (size : Size) (g : WktRead text c c' l l' n n' (Ok size)) where
   was : Given text (length c) (length l) (length n) size
   was = given text (length c) (length l) (length n) size g.answer
 

@@ -1,4 +1,5 @@
 -- What writing a plan answers, refusal by refusal, and what is known where its text was written. Assumes nothing.
+use Rattle.std.specs.Prelude.{Err, Ok, Result, ℕ}
 use mathlib.Core.Path.{◌≡◌, refl, sym, ap, ap₂, subst, ◌∙◌}
 use mathlib.Core.Bool.{Bool, true, false, not, cond, ◌&&◌, ◌||◌}
 use mathlib.Core.List.{List}
@@ -14,33 +15,31 @@ use Rattle.rules.specs.declared.Kind.TheVariants.{Polygons, Tree}
 use Rattle.rules.specs.declared.Refusal.{Refusal}
 use Rattle.rules.specs.declared.Refusal.TheVariants.{TextTooLong, TableTooShort, Unclosed, TooMany, Uneven}
 use Rattle.rules.specs.declared.Table.TheVariants.{Output}
-use Rattle.rules.specs.declared.Verdict.{Verdict}
 use Rattle.rules.specs.Lists.{any_of}
 use Rattle.rules.specs.Plans.{Plan, is_list, too_many, uneven, plan_verdict}
 use Rattle.grammar.specs.Texts.{wkt_of}
 use Rattle.writer.specs.Drawn.{list_of, Drawn}
 use Rattle.writer.specs.Lengths.{TextLong}
-use Rattle.wkt.specs.declared.write.Writing.{Writing}
-use Rattle.wkt.specs.declared.write.Writing.TheVariants.{Written, Refused}
 use Rattle.wkt.specs.Writings.{drawable, with_output, drawn_writing, writing_of, writing, writing_number, writing_detail, number_due, detail_due, output_after, Answered, WktWritten}
+use Rattle.rules.specs.Answering.{Verdict, Accepted}
 
 -- ---- 1 and 11
 
 module _ (coordinates : List ℤ) (lengths counts : List ℕ) (room bytes : ℕ) (l : TextLong coordinates lengths counts bytes) where
-  abbrev due : Writing
+  abbrev due : (Result ℕ Refusal)
   due = with_output (length (wkt_of (list_of coordinates lengths counts))) room
 
   counted : with_output bytes room ≡ due
   counted = ap (λ n. with_output n room) l.exact
 
-  pub too_long : 65536 < bytes → Answered coordinates (with_output (length (wkt_of (list_of coordinates lengths counts))) room) (Refused TextTooLong)
+  pub too_long : 65536 < bytes → Answered coordinates (with_output (length (wkt_of (list_of coordinates lengths counts))) room) (Err TextTooLong)
   too_long h = record { answer = sym (rw (lt-ltb 65536 bytes h) refl) ∙ counted; fits = tt }
 
   module _ (h : bytes ≤ 65536) where
-    pub too_short_lem : room < bytes → Answered coordinates (with_output (length (wkt_of (list_of coordinates lengths counts))) room) (Refused (TableTooShort Output))
+    pub too_short_lem : room < bytes → Answered coordinates (with_output (length (wkt_of (list_of coordinates lengths counts))) room) (Err (TableTooShort Output))
     too_short_lem k = record { answer = sym (rw (le-ltb 65536 bytes h, lt-ltb room bytes k) refl) ∙ counted; fits = tt }
 
-    pub text_fits : bytes ≤ room → Answered coordinates (with_output (length (wkt_of (list_of coordinates lengths counts))) room) (Written bytes)
+    pub text_fits : bytes ≤ room → Answered coordinates (with_output (length (wkt_of (list_of coordinates lengths counts))) room) (Ok bytes)
     text_fits k = record { answer = sym (rw (le-ltb 65536 bytes h, le-ltb room bytes k) refl) ∙ counted; fits = l.fits }
 
 -- ---- 22
@@ -66,7 +65,7 @@ module _ (kind : Kind) (coordinates : List ℤ) (lengths counts : List ℕ) wher
   abbrev bare : Bool
   bare = any_of (λ n. eqb n 0) lengths
 
-  pub not_closed : (room : ℕ) → not (is_list kind) || any_of (λ n. eqb n 0) lengths ≡ true → Answered coordinates (drawn_writing (plan_given kind coordinates lengths counts) room) (Refused Unclosed)
+  pub not_closed : (room : ℕ) → not (is_list kind) || any_of (λ n. eqb n 0) lengths ≡ true → Answered coordinates (drawn_writing (plan_given kind coordinates lengths counts) room) (Err Unclosed)
   unfolding drawable
   not_closed room e = record { answer = sym (rw (undrawable (is_list kind) bare e) refl); fits = tt }
 
@@ -74,32 +73,32 @@ module _ (kind : Kind) (coordinates : List ℤ) (lengths counts : List ℕ) wher
     is_list_lem : kind ≡ Polygons
     is_list_lem = a_list kind (is_drawable (is_list kind) bare e).0
 
-    pub can_draw : plan_verdict (plan_given kind coordinates lengths counts) ≡ Verdict.Accepted → Drawn coordinates lengths counts
+    pub can_draw : plan_verdict (plan_given kind coordinates lengths counts) ≡ Accepted → Drawn coordinates lengths counts
     can_draw v = record { accepted = ap (λ k. plan_verdict (plan_given k coordinates lengths counts)) (sym is_list_lem) ∙ v; full = (is_drawable (is_list kind) bare e).1 }
 
-    pub drawn_as : (room : ℕ) (r : Writing) → Answered coordinates (with_output (length (wkt_of (list_of coordinates lengths counts))) room) r → Answered coordinates (drawn_writing (plan_given kind coordinates lengths counts) room) r
+    pub drawn_as : (room : ℕ) (r : Result ℕ Refusal) → Answered coordinates (with_output (length (wkt_of (list_of coordinates lengths counts))) room) r → Answered coordinates (drawn_writing (plan_given kind coordinates lengths counts) room) r
     unfolding drawable
     drawn_as room r a =
         let f = is_drawable (is_list kind) bare e in
         record {
-          answer = a.answer ∙ ap (λ k. with_output (length (wkt_of (plan_given k coordinates lengths counts))) room) (sym is_list_lem) ∙ sym (ap₂ (λ p q. cond (p && not q) (with_output (length (wkt_of (plan_given kind coordinates lengths counts))) room) (Refused Unclosed)) f.0 f.1);
+          answer = a.answer ∙ ap (λ k. with_output (length (wkt_of (plan_given k coordinates lengths counts))) room) (sym is_list_lem) ∙ sym (ap₂ (λ p q. cond (p && not q) (with_output (length (wkt_of (plan_given kind coordinates lengths counts))) room) (Err Unclosed)) f.0 f.1);
           fits = a.fits;
         }
 
 -- ---- 4 and 3
 
-pub accepted_as : (plan : Plan) (room : ℕ) (r : Writing) → plan_verdict plan ≡ Verdict.Accepted → Answered plan.coordinates (drawn_writing plan room) r → Answered plan.coordinates (writing plan room) r
+pub accepted_as : (plan : Plan) (room : ℕ) (r : Result ℕ Refusal) → plan_verdict plan ≡ Accepted → Answered plan.coordinates (drawn_writing plan room) r → Answered plan.coordinates (writing plan room) r
 unfolding writing
 accepted_as plan room r v a = record { answer = a.answer ∙ ap (λ w. writing_of w plan room) (sym v); fits = a.fits }
 
-pub refused_as : (plan : Plan) (room : ℕ) (refusal : Refusal) → plan_verdict plan ≡ Verdict.Refused refusal → Answered plan.coordinates (writing plan room) (Refused refusal)
+pub refused_as : (plan : Plan) (room : ℕ) (refusal : Refusal) → plan_verdict plan ≡ Err refusal → Answered plan.coordinates (writing plan room) (Err refusal)
 unfolding writing
 refused_as plan room refusal v = record { answer = ap (λ w. writing_of w plan room) (sym v); fits = tt }
 
 -- ---- the numbers
 
-by_tests : (many odd drawn long short : Bool) (bytes : ℕ) (plan : Plan) (room : ℕ) → drawn_writing plan room ≡ cond drawn (cond long (Refused TextTooLong) (cond short (Refused (TableTooShort Output)) (Written bytes))) (Refused Unclosed)
-    → let r : Writing = writing_of (cond many (Verdict.Refused TooMany) (cond odd (Verdict.Refused Uneven) Verdict.Accepted)) plan room in
+by_tests : (many odd drawn long short : Bool) (bytes : ℕ) (plan : Plan) (room : ℕ) → drawn_writing plan room ≡ cond drawn (cond long (Err TextTooLong) (cond short (Err (TableTooShort Output)) (Ok bytes))) (Err Unclosed)
+    → let r : (Result ℕ Refusal) = writing_of (cond many (Err TooMany) (cond odd (Err Uneven) Accepted)) plan room in
     let n : ℕ = cond many 4 (cond odd 3 (cond (not drawn) 22 (cond long 1 (cond short 11 0)))) in
     (writing_number r ≡ n) × (writing_detail r ≡ cond (eqb n 11) 6 0)
 by_tests true odd drawn long short bytes plan room e = (refl, refl)
@@ -117,7 +116,7 @@ numbers plan room = by_tests (too_many plan) (uneven plan) (drawable plan) (ltb 
 
 module _ (plan : Plan) (output output' : List ℕ) where
   -- what the promise says, from the answer and what became of the output
-  pub written_as : (r : Writing) → Answered plan.coordinates (writing plan (length output)) r → output' ≡ output_after r (wkt_of plan) output → WktWritten plan output output' r
+  pub written_as : (r : Result ℕ Refusal) → Answered plan.coordinates (writing plan (length output)) r → output' ≡ output_after r (wkt_of plan) output → WktWritten plan output output' r
   written_as r a e =
       let n = numbers plan (length output) in
       record {
@@ -130,39 +129,39 @@ module _ (plan : Plan) (output output' : List ℕ) where
 
 -- ---- a text that was written
 
-different : {A : Type 0} (bytes : ℕ) (refusal : Refusal) → Written bytes ≡ Refused refusal → A
+different : {A : Type 0} (bytes : ℕ) (refusal : Refusal) → Ok bytes ≡ Err refusal → A
 different bytes refusal e = let one : ◌≡◌ {A = ℕ} 0 1 = cc in absurd (omega arith)
 
 -- where a text is due: the plan is accepted, can be drawn, and its text has so many bytes, for which there is room
 pub record Due (plan : Plan) (room bytes : ℕ) : Type 0 where
-  pub accepted : plan_verdict plan ≡ Verdict.Accepted
+  pub accepted : plan_verdict plan ≡ Accepted
   pub list : plan.kind ≡ Polygons
   pub full : any_of (λ n. eqb n 0) plan.lengths ≡ false
   pub exact : bytes ≡ length (wkt_of plan)
   pub short : length (wkt_of plan) ≤ 65536
   pub reach : length (wkt_of plan) ≤ room
 
-pub due_for : (plan : Plan) (room bytes : ℕ) → Written bytes ≡ writing plan room → Due plan room bytes
+pub due_for : (plan : Plan) (room bytes : ℕ) → Ok bytes ≡ writing plan room → Due plan room bytes
 unfolding writing drawable
 due_for plan room bytes h = by_verdict (plan_verdict plan) refl h
   where
-    by_room : (long small : Bool) → ltb 65536 (length (wkt_of plan)) ≡ long → ltb room (length (wkt_of plan)) ≡ small → Written bytes ≡ cond long (Refused TextTooLong) (cond small (Refused (TableTooShort Output)) (Written (length (wkt_of plan)))) → (bytes ≡ length (wkt_of plan)) × (length (wkt_of plan) ≤ 65536) × (length (wkt_of plan) ≤ room)
+    by_room : (long small : Bool) → ltb 65536 (length (wkt_of plan)) ≡ long → ltb room (length (wkt_of plan)) ≡ small → Ok bytes ≡ cond long (Err TextTooLong) (cond small (Err (TableTooShort Output)) (Ok (length (wkt_of plan)))) → (bytes ≡ length (wkt_of plan)) × (length (wkt_of plan) ≤ 65536) × (length (wkt_of plan) ≤ room)
     by_room true small p q e = different bytes TextTooLong e
     by_room false true p q e = different bytes (TableTooShort Output) e
     by_room false false p q e = (cc, ltb-false 65536 (length (wkt_of plan)) p, ltb-false room (length (wkt_of plan)) q)
 
-    by_drawing : (list bare : Bool) → is_list plan.kind ≡ list → any_of (λ n. eqb n 0) plan.lengths ≡ bare → plan_verdict plan ≡ Verdict.Accepted → Written bytes ≡ cond (list && not bare) (with_output (length (wkt_of plan)) room) (Refused Unclosed) → Due plan room bytes
+    by_drawing : (list bare : Bool) → is_list plan.kind ≡ list → any_of (λ n. eqb n 0) plan.lengths ≡ bare → plan_verdict plan ≡ Accepted → Ok bytes ≡ cond (list && not bare) (with_output (length (wkt_of plan)) room) (Err Unclosed) → Due plan room bytes
     by_drawing true true p q v e = different bytes Unclosed e
     by_drawing false bare p q v e = different bytes Unclosed e
     by_drawing true false p q v e =
         let f = by_room (ltb 65536 (length (wkt_of plan))) (ltb room (length (wkt_of plan))) refl refl e in
         record { accepted = v; list = a_list plan.kind p; full = q; exact = f.0; short = f.1; reach = f.2 }
 
-    by_verdict : (w : Verdict) → plan_verdict plan ≡ w → Written bytes ≡ writing_of w plan room → Due plan room bytes
-    by_verdict Verdict.Accepted v e = by_drawing (is_list plan.kind) (any_of (λ n. eqb n 0) plan.lengths) refl refl v e
-    by_verdict (Verdict.Refused refusal) v e = different bytes refusal e
+    by_verdict : (w : Verdict) → plan_verdict plan ≡ w → Ok bytes ≡ writing_of w plan room → Due plan room bytes
+    by_verdict Accepted v e = by_drawing (is_list plan.kind) (any_of (λ n. eqb n 0) plan.lengths) refl refl v e
+    by_verdict (Err refusal) v e = different bytes refusal e
 
-module _ (kind : Kind) (coordinates : List ℤ) (lengths counts : List ℕ) (output : List ℕ) (bytes : ℕ) (a : Answered coordinates (writing (plan_given kind coordinates lengths counts) (length output)) (Written bytes)) where
+module _ (kind : Kind) (coordinates : List ℤ) (lengths counts : List ℕ) (output : List ℕ) (bytes : ℕ) (a : Answered coordinates (writing (plan_given kind coordinates lengths counts) (length output)) (Ok bytes)) where
   abbrev plan : Plan
   plan = plan_given kind coordinates lengths counts
 
@@ -178,5 +177,5 @@ module _ (kind : Kind) (coordinates : List ℤ) (lengths counts : List ℕ) (out
   pub answered_room : length (wkt_of (list_of coordinates lengths counts)) ≤ length output
   answered_room = subst (λ s. length s ≤ length output) (sym list_text) due_here.reach
 
-  pub text_written : (output' : List ℕ) (n : ℕ) → Wrote 0 (wkt_of (list_of coordinates lengths counts)) output output' n → WktWritten (plan_given kind coordinates lengths counts) output output' (Written bytes)
-  text_written output' n w = written_as plan output output' (Written bytes) a (w.whole ∙ ap (λ s. overwritten 0 s output) list_text)
+  pub text_written : (output' : List ℕ) (n : ℕ) → Wrote 0 (wkt_of (list_of coordinates lengths counts)) output output' n → WktWritten (plan_given kind coordinates lengths counts) output output' (Ok bytes)
+  text_written output' n w = written_as plan output output' (Ok bytes) a (w.whole ∙ ap (λ s. overwritten 0 s output) list_text)

@@ -1,4 +1,5 @@
 -- A plan that was written: the output begins with its text, which spells closed polygons, and these are the plan again. Assumes nothing.
+use Rattle.std.specs.Prelude.{Ok}
 use mathlib.Core.Path.{◌≡◌, sym, ap, subst, ◌∙◌}
 use mathlib.Core.Bool.{true}
 use mathlib.Core.List.{List}
@@ -16,7 +17,6 @@ use Rattle.grammar.specs.Texts.{wkt_of}
 use Rattle.grammar.specs.Plans.{every_closed, plan_spelt}
 use Rattle.writer.specs.Drawn.{Drawn, closed_polygons}
 use Rattle.writer.proofs.Back.{spelt_back, closed_back, plan_back}
-use Rattle.wkt.specs.declared.write.Writing.TheVariants.{Written}
 use Rattle.wkt.specs.Writings.{writing, Answered, WktWritten}
 use Rattle.wkt.proofs.Writings.{plan_given, Due, due_for, list_text, answered_drawn}
 
@@ -29,14 +29,14 @@ pub record Back (plan : Plan) (bytes : ℕ) (output : List ℕ) : Type 0 where
   -- and what they give is the plan
   pub same : plan_spelt polygons ≡ plan
 
-module _ (kind : Kind) (coordinates : List ℤ) (lengths counts output output' : List ℕ) (bytes : ℕ) (w : WktWritten (plan_given kind coordinates lengths counts) output output' (Written bytes)) where
+module _ (kind : Kind) (coordinates : List ℤ) (lengths counts output output' : List ℕ) (bytes : ℕ) (w : WktWritten (plan_given kind coordinates lengths counts) output output' (Ok bytes)) where
   abbrev plan : Plan
   plan = plan_given kind coordinates lengths counts
 
   due : Due plan (length output) bytes
   due = due_for plan (length output) bytes w.answer
 
-  answered : Answered coordinates (writing (plan_given kind coordinates lengths counts) (length output)) (Written bytes)
+  answered : Answered coordinates (writing (plan_given kind coordinates lengths counts) (length output)) (Ok bytes)
   answered = record { answer = w.answer; fits = w.fits }
 
   drawn : Drawn coordinates lengths counts

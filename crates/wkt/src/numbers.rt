@@ -2,9 +2,8 @@
 ghost use Rattle.std.specs.Prelude.{◌≡◌};
 ghost use Rattle.wkt.specs.Numbers.{read_numbers, write_numbers};
 
-use crate::write::Writing;
-use rules::{refusal_detail, refusal_number};
-use text::Reading;
+use lines::Size;
+use rules::{Refusal, refusal_detail, refusal_number};
 
 /// What reading answers: the refusal number or 0; the place that refusal 21 names, the table that refusal 11 names, or 0; and how many
 /// corners, rings and polygons the plan has, all 0 where the text is refused.
@@ -28,18 +27,18 @@ pub struct WriteNumbers {
 }
 
 /// The numbers of what reading answers.
-pub fn read_numbers(reading: Reading) -> ReadNumbers
+pub fn read_numbers(reading: Result<Size, Refusal>) -> ReadNumbers
     ensures { result ≡ read_numbers reading }
 {
     match reading {
-        Reading::Read(size) => ReadNumbers {
+        Ok(size) => ReadNumbers {
             refusal: 0,
             detail: 0,
             corners: size.corners,
             rings: size.rings,
             polygons: size.polygons,
         },
-        Reading::Refused(refusal) => ReadNumbers {
+        Err(refusal) => ReadNumbers {
             refusal: refusal_number(refusal),
             detail: refusal_detail(refusal),
             corners: 0,
@@ -50,16 +49,16 @@ pub fn read_numbers(reading: Reading) -> ReadNumbers
 }
 
 /// The numbers of what writing answers.
-pub fn write_numbers(writing: Writing) -> WriteNumbers
+pub fn write_numbers(writing: Result<usize, Refusal>) -> WriteNumbers
     ensures { result ≡ write_numbers writing }
 {
     match writing {
-        Writing::Written(length) => WriteNumbers {
+        Ok(length) => WriteNumbers {
             refusal: 0,
             table: 0,
             length,
         },
-        Writing::Refused(refusal) => WriteNumbers {
+        Err(refusal) => WriteNumbers {
             refusal: refusal_number(refusal),
             table: refusal_detail(refusal),
             length: 0,

@@ -2,14 +2,15 @@
 ghost use Rattle.std.specs.Prelude.{◌≡◌, ◌≤◌, length};
 ghost use Rattle.wkt.specs.Readings.{Judged, judged_reading, reading, WktRead};
 
+use grammar::OffGrammar;
 use lines::Size;
 use rules::{Kind, Refusal};
+use scanner::Extent;
 use scanner::texts::scan;
-use scanner::{Extent, Scan};
-use text::{MAX_TEXT, Reading, room};
+use text::{MAX_TEXT, room};
 
 // What a text comes to, with nothing stored: there is no table to reach.
-fn judge(text: &[u8]) -> Scan
+fn judge(text: &[u8]) -> Result<Extent, OffGrammar>
     requires { length text.now ≤ 65536 }
     ensures { Judged text.now result }
 {
@@ -20,11 +21,16 @@ fn judge(text: &[u8]) -> Scan
 }
 
 // 22 where a ring is not closed, else the plan, or 11 where a table that holds so many numbers is too short.
-fn with_tables(extent: Extent, corners: usize, rings: usize, polygons: usize) -> Reading
+fn with_tables(
+    extent: Extent,
+    corners: usize,
+    rings: usize,
+    polygons: usize,
+) -> Result<Size, Refusal>
     ensures { result ≡ judged_reading extent corners rings polygons }
 {
     if !extent.closed {
-        return Reading::Refused(Refusal::Unclosed);
+        return Err(Refusal::Unclosed);
     }
     let size = Size {
         kind: Kind::Polygons,
@@ -36,16 +42,14 @@ fn with_tables(extent: Extent, corners: usize, rings: usize, polygons: usize) ->
 }
 
 // What reading a text into tables that hold so many numbers answers. Nothing is written.
-fn answer(text: &[u8], corners: usize, rings: usize, polygons: usize) -> Reading
+fn answer(text: &[u8], corners: usize, rings: usize, polygons: usize) -> Result<Size, Refusal>
     ensures { result ≡ reading text.now corners rings polygons }
 {
     if MAX_TEXT < text.len() {
-        return Reading::Refused(Refusal::TextTooLong);
+        return Err(Refusal::TextTooLong);
     }
-    match judge(text) {
-        Scan::Read(extent, _) => with_tables(extent, corners, rings, polygons),
-        Scan::Off(place) => Reading::Refused(Refusal::OffGrammar(place)),
-    }
+    let extent = judge(text)?;
+    with_tables(extent, corners, rings, polygons)
 }
 
 /// Reads a text of Well-Known Text into the lent tables: the corners' x, y, x, y, .., without the last of each ring, which repeats the first; the
@@ -61,14 +65,11 @@ pub fn read_wkt(
     corners: &mut [i64],
     lengths: &mut [usize],
     counts: &mut [usize],
-) -> Reading
+) -> Result<Size, Refusal>
     ensures { WktRead text.now corners.old corners.new lengths.old lengths.new counts.old counts.new result }
 {
-    match answer(text, corners.len(), lengths.len(), counts.len()) {
-        Reading::Read(size) => {
-            scan(text, corners, lengths, counts);
-            Reading::Read(size)
-        }
-        Reading::Refused(refusal) => Reading::Refused(refusal),
-    }
+    let size = answer(text, corners.len(), lengths.len(), counts.len())?;
+    // The text was judged: the scan stores what it spells.
+    let _ = scan(text, corners, lengths, counts);
+    Ok(size)
 }

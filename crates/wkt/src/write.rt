@@ -1,40 +1,36 @@
 // A list plan written as Well-Known Text, and what that answers (document 02, R-1).
 ghost use Rattle.std.specs.Prelude.{◌≡◌, length};
 ghost use Rattle.rules.specs.declared.Kind.TheVariants.{Tree};
-ghost use Rattle.rules.specs.declared.Verdict.TheVariants.{Accepted};
 ghost use Rattle.rules.specs.Plans.{plan_verdict};
 ghost use Rattle.grammar.specs.Texts.{wkt_of};
 ghost use Rattle.writer.specs.Drawn.{list_of, Drawn};
 ghost use Rattle.wkt.specs.Writings.{with_output, drawn_writing, writing, unnamed_writing, Answered, WktWritten};
+ghost use Rattle.rules.specs.Answering.{Accepted};
 
 use plans::{has_zero, judge};
-use rules::{Kind, Refusal, Table, Verdict, is_list};
+use rules::{Kind, Refusal, Table, is_list};
 use text::MAX_TEXT;
 use writer::lengths::text_length;
 use writer::put_text;
 
-/// What writing a plan as Well-Known Text answers.
-#[derive(Clone, Copy)]
-pub enum Writing {
-    /// The text stands in the output from its start, and has so many bytes.
-    Written(usize),
-    /// 4, 3, 22, 1, or 11 with the output as its table.
-    Refused(Refusal),
-}
-
 // Refusals 1 and 11 of a list that can be written, into an output of so many bytes, or how many bytes its text has.
-fn text_answer(coordinates: &[i64], lengths: &[usize], counts: &[usize], room: usize) -> Writing
+fn text_answer(
+    coordinates: &[i64],
+    lengths: &[usize],
+    counts: &[usize],
+    room: usize,
+) -> Result<usize, Refusal>
     requires { Drawn coordinates.now lengths.now counts.now }
     ensures { Answered coordinates.now (with_output (length (wkt_of (list_of coordinates.now lengths.now counts.now))) room) result }
 {
     let length = text_length(coordinates, lengths, counts);
     if MAX_TEXT < length {
-        return Writing::Refused(Refusal::TextTooLong);
+        return Err(Refusal::TextTooLong);
     }
     if room < length {
-        return Writing::Refused(Refusal::TableTooShort(Table::Output));
+        return Err(Refusal::TableTooShort(Table::Output));
     }
-    Writing::Written(length)
+    Ok(length)
 }
 
 // Refusals 22, 1 and 11 of a plan that is accepted.
@@ -44,12 +40,12 @@ fn drawn_answer(
     lengths: &[usize],
     counts: &[usize],
     room: usize,
-) -> Writing
+) -> Result<usize, Refusal>
     requires { plan_verdict (record { kind = kind; coordinates = coordinates.now; lengths = lengths.now; counts = counts.now }) ≡ Accepted }
     ensures { Answered coordinates.now (drawn_writing (record { kind = kind; coordinates = coordinates.now; lengths = lengths.now; counts = counts.now }) room) result }
 {
     if !is_list(kind) | has_zero(lengths) {
-        return Writing::Refused(Refusal::Unclosed);
+        return Err(Refusal::Unclosed);
     }
     text_answer(coordinates, lengths, counts, room)
 }
@@ -61,13 +57,11 @@ fn answer(
     lengths: &[usize],
     counts: &[usize],
     room: usize,
-) -> Writing
+) -> Result<usize, Refusal>
     ensures { Answered coordinates.now (writing (record { kind = kind; coordinates = coordinates.now; lengths = lengths.now; counts = counts.now }) room) result }
 {
-    match judge(kind, coordinates, lengths, counts) {
-        Verdict::Accepted => drawn_answer(kind, coordinates, lengths, counts, room),
-        Verdict::Refused(refusal) => Writing::Refused(refusal),
-    }
+    judge(kind, coordinates, lengths, counts)?;
+    drawn_answer(kind, coordinates, lengths, counts, room)
 }
 
 /// Writes a list plan as Well-Known Text into the output from its start: a `MULTIPOLYGON` with the first corner of each ring repeated at its
@@ -83,24 +77,22 @@ pub fn write_wkt(
     lengths: &[usize],
     counts: &[usize],
     output: &mut [u8],
-) -> Writing
+) -> Result<usize, Refusal>
     ensures { WktWritten (record { kind = kind; coordinates = coordinates.now; lengths = lengths.now; counts = counts.now }) output.old output.new result }
 {
-    match answer(kind, coordinates, lengths, counts, output.len()) {
-        Writing::Written(length) => {
-            put_text(output, coordinates, lengths, counts);
-            Writing::Written(length)
-        }
-        Writing::Refused(refusal) => Writing::Refused(refusal),
-    }
+    let length = answer(kind, coordinates, lengths, counts, output.len())?;
+    put_text(output, coordinates, lengths, counts);
+    Ok(length)
 }
 
 /// What writing answers where the number names no kind: 4 and 3 as a tree has them, else 15. Nothing is written.
-pub fn unnamed_writing(coordinates: &[i64], lengths: &[usize], counts: &[usize]) -> Writing
+pub fn unnamed_writing(
+    coordinates: &[i64],
+    lengths: &[usize],
+    counts: &[usize],
+) -> Result<usize, Refusal>
     ensures { result ≡ unnamed_writing (plan_verdict (record { kind = Tree; coordinates = coordinates.now; lengths = lengths.now; counts = counts.now })) }
 {
-    match judge(Kind::Tree, coordinates, lengths, counts) {
-        Verdict::Accepted => Writing::Refused(Refusal::Unsound),
-        Verdict::Refused(early) => Writing::Refused(early),
-    }
+    judge(Kind::Tree, coordinates, lengths, counts)?;
+    Err(Refusal::Unsound)
 }

@@ -1,11 +1,11 @@
 -- What the writer asks of a plan, and the parts of a written list (document 02, R-1).
 use Rattle.std.specs.Prelude.{◌≡◌, false, List, [], ◌∷◌, ◌++◌, map, ℕ, zero, suc, ◌≤◌, eqb, ℤ, length}
 use Rattle.rules.specs.declared.Kind.TheVariants.{Polygons}
-use Rattle.rules.specs.declared.Verdict.TheVariants.{Accepted}
 use Rattle.rules.specs.Lists.{any_of, total, parts_of}
 use Rattle.rules.specs.Plans.{Plan, corners_of, polygons_of, plan_verdict}
 use Rattle.grammar.specs.Grammar.{Ring, Polygon}
 use Rattle.grammar.specs.Texts.{closed}
+use Rattle.rules.specs.Answering.{Accepted}
 
 -- a list of these three tables
 abbrev pub list_of : List ℤ → List ℕ → List ℕ → Plan

@@ -12,10 +12,8 @@ fn decimals(numbers: &[i64]) -> usize
     ensures { Decimals numbers.now result }
 {
     let mut sum = 0;
-    let mut i = 0;
-    while i < numbers.len() {
-        sum += decimal_length(numbers[i]);
-        i += 1;
+    for &z in numbers {
+        sum += decimal_length(z);
     }
     sum
 }
@@ -28,7 +26,7 @@ fn ring_length(ring: &[i64]) -> usize
 {
     let corners = ring.len() / 2;
     let all = decimals(ring);
-    let again = decimals(&ring[0..2]);
+    let again = decimals(&ring[..2]);
     3 * corners + 3 + all + again
 }
 
@@ -39,12 +37,10 @@ fn rings_length(coordinates: &[i64], lengths: &[usize]) -> usize
 {
     let mut sum = 0;
     let mut first = 0;
-    let mut i = 0;
-    while i < lengths.len() {
-        let end = first + lengths[i];
+    for &corners in lengths {
+        let end = first + corners;
         sum += ring_length(&coordinates[2 * first..2 * end]);
         first = end;
-        i += 1;
     }
     sum
 }
@@ -56,7 +52,7 @@ pub fn text_length(coordinates: &[i64], lengths: &[usize], counts: &[usize]) -> 
     ensures { TextLong coordinates.now lengths.now counts.now result }
 {
     let rings = rings_length(coordinates, lengths);
-    if counts.len() == 0 {
+    if counts.is_empty() {
         return 18;
     }
     13 + 2 * counts.len() + 2 * lengths.len() + rings

@@ -47,12 +47,9 @@ fn put_corners(output: &mut [u8], at: usize, ring: &[i64]) -> usize
     requires { at + length (leads pair_text 0 (corners_of ring.now)) ≤ length output.old }
     ensures { Wrote at (leads pair_text 0 (corners_of ring.now)) output.old output.new result }
 {
-    let corners = ring.len() / 2;
     let mut place = at;
-    let mut i = 0;
-    while i < corners {
+    for i in 0..ring.len() / 2 {
         place = put_next(output, place, i, ring[2 * i], ring[2 * i + 1]);
-        i += 1;
     }
     place
 }
@@ -62,10 +59,8 @@ fn put_ring(output: &mut [u8], at: usize, ring: &[i64]) -> usize
     requires { (1 < length ring.now) × (at + length (ring_text (closed (corners_of ring.now))) ≤ length output.old) }
     ensures { Wrote at (ring_text (closed (corners_of ring.now))) output.old output.new result }
 {
-    let x = ring[0];
-    let y = ring[1];
     let open = put_corners(output, at, ring);
-    let again = put_next(output, open, 1, x, y);
+    let again = put_next(output, open, 1, ring[0], ring[1]);
     put(output, again, b")")
 }
 
@@ -76,13 +71,11 @@ fn put_polygon(output: &mut [u8], at: usize, coordinates: &[i64], lengths: &[usi
 {
     let mut place = at;
     let mut first = 0;
-    let mut i = 0;
-    while i < lengths.len() {
-        let end = first + lengths[i];
+    for (i, &corners) in lengths.iter().enumerate() {
+        let end = first + corners;
         let next = put_lead(output, place, i);
         place = put_ring(output, next, &coordinates[2 * first..2 * end]);
         first = end;
-        i += 1;
     }
     put(output, place, b")")
 }
@@ -93,10 +86,8 @@ fn corner_count(lengths: &[usize]) -> usize
     ensures { result ≡ total lengths.now }
 {
     let mut sum = 0;
-    let mut i = 0;
-    while i < lengths.len() {
-        sum += lengths[i];
-        i += 1;
+    for &corners in lengths {
+        sum += corners;
     }
     sum
 }
@@ -115,15 +106,13 @@ fn put_polygons(
     let mut place = at;
     let mut first = 0;
     let mut ring = 0;
-    let mut i = 0;
-    while i < counts.len() {
-        let end = ring + counts[i];
+    for (i, &count) in counts.iter().enumerate() {
+        let end = ring + count;
         let rings = &lengths[ring..end];
         let next = put_lead(output, place, i);
         place = put_polygon(output, next, &coordinates[2 * first..], rings);
         first += corner_count(rings);
         ring = end;
-        i += 1;
     }
     place
 }
@@ -139,7 +128,7 @@ pub fn put_text(
     requires { Drawn coordinates.now lengths.now counts.now × (length (wkt_of (list_of coordinates.now lengths.now counts.now)) ≤ length output.old) }
     ensures { Wrote 0 (wkt_of (list_of coordinates.now lengths.now counts.now)) output.old output.new result }
 {
-    if counts.len() == 0 {
+    if counts.is_empty() {
         return put(output, 0, b"MULTIPOLYGON EMPTY");
     }
     let start = put(output, 0, b"MULTIPOLYGON ");

@@ -4,13 +4,13 @@ use lib.IntN.{pos}
 use lib.ListN.{drop, replicate}
 use Rattle.fields.specs.Pieces.{split}
 use Rattle.rules.specs.Plans.{Plan}
-use Rattle.prepare.specs.declared.Preparing.TheVariants.{Ready}
 use Rattle.prepare.specs.Tables.{Tables, Prepared}
 use Rattle.answers.specs.Replies.{handed}
 use Rattle.answers.proofs.Lines.{wrote_same}
 use Rattle.answers.proofs.LookUps.{tables_prepared, replies_held, due_held, never_unprepared}
 use Rattle.answers.proofs.answer_lines.Goals as goal
-use Rattle.answers.proofs.answer_lines.Goals.{After-prepare, In-Ready, Start}
+use Rattle.answers.proofs.answer_lines.Goals.{After-prepare, In-Ok, Start}
+use Rattle.prepare.specs.Answers.{ready_with}
 
 -- the plan as it is handed in
 abbrev given : Start → Plan
@@ -29,14 +29,14 @@ said : (c : After-prepare) → Prepared (given (goal.at.After-prepare c).Start) 
 said c = c.prepare.ensures
 
 -- the plan is prepared
-was_prepared : (c : In-Ready) → Prepared (given (goal.at.In-Ready c).Start) zeros (left (goal.at.In-Ready c).After-prepare) (Ready c.in-Ready.state c.in-Ready.field-1)
-was_prepared c = subst (Prepared (given (goal.at.In-Ready c).Start) zeros (left (goal.at.In-Ready c).After-prepare)) c.in-Ready.is (said (goal.at.In-Ready c).After-prepare)
+was_prepared : (c : In-Ok) → Prepared (given (goal.at.In-Ok c).Start) zeros (left (goal.at.In-Ok c).After-prepare) (ready_with c.in-Ok.ready.state c.in-Ok.ready.nodes)
+was_prepared c = subst (Prepared (given (goal.at.In-Ok c).Start) zeros (left (goal.at.In-Ok c).After-prepare)) c.in-Ok.is (said (goal.at.In-Ok c).After-prepare)
 
 pub put_replies-requires : goal.put_replies-requires
-put_replies-requires c = let p = was_prepared (goal.at.put_replies-requires c).In-Ready in (tables_prepared (given (goal.at.put_replies-requires c).Start) zeros (left (goal.at.put_replies-requires c).After-prepare) c.in-Ready.state c.in-Ready.field-1 p, due_held (given (goal.at.put_replies-requires c).Start) zeros (left (goal.at.put_replies-requires c).After-prepare) c.in-Ready.state c.in-Ready.field-1 p c.args.input.now c.args.first c.args.number c.args.output.now c.requires.1)
+put_replies-requires c = let p = was_prepared (goal.at.put_replies-requires c).In-Ok in (tables_prepared (given (goal.at.put_replies-requires c).Start) zeros (left (goal.at.put_replies-requires c).After-prepare) c.in-Ok.ready.state c.in-Ok.ready.nodes p, due_held (given (goal.at.put_replies-requires c).Start) zeros (left (goal.at.put_replies-requires c).After-prepare) c.in-Ok.ready.state c.in-Ok.ready.nodes p c.args.input.now c.args.first c.args.number c.args.output.now c.requires.1)
 
-pub returns-in-Ready : goal.returns-in-Ready
-returns-in-Ready c = let p = was_prepared (goal.at.returns-in-Ready c).In-Ready in wrote_same _ _ c.args.output.now _ c.put_replies.result (replies_held (given (goal.at.returns-in-Ready c).Start) zeros (left (goal.at.returns-in-Ready c).After-prepare) c.in-Ready.state c.in-Ready.field-1 p c.args.number (split 10 (drop c.args.first c.args.input.now))) c.put_replies.ensures
+pub returns-in-Ok : goal.returns-in-Ok
+returns-in-Ok c = let p = was_prepared (goal.at.returns-in-Ok c).In-Ok in wrote_same _ _ c.args.output.now _ c.put_replies.result (replies_held (given (goal.at.returns-in-Ok c).Start) zeros (left (goal.at.returns-in-Ok c).After-prepare) c.in-Ok.ready.state c.in-Ok.ready.nodes p c.args.number (split 10 (drop c.args.first c.args.input.now))) c.put_replies.ensures
 
-pub returns-in-Refused : goal.returns-in-Refused
-returns-in-Refused c = never_unprepared (given (goal.at.returns-in-Refused c).Start) c.requires.0 zeros (left (goal.at.returns-in-Refused c).After-prepare) c.in-Refused.field-0 refl (subst (Prepared (given (goal.at.returns-in-Refused c).Start) zeros (left (goal.at.returns-in-Refused c).After-prepare)) c.in-Refused.is (said (goal.at.returns-in-Refused c).After-prepare))
+pub returns-in-Err : goal.returns-in-Err
+returns-in-Err c = never_unprepared (given (goal.at.returns-in-Err c).Start) c.requires.0 zeros (left (goal.at.returns-in-Err c).After-prepare) c.in-Err.field-0 refl (subst (Prepared (given (goal.at.returns-in-Err c).Start) zeros (left (goal.at.returns-in-Err c).After-prepare)) c.in-Err.is (said (goal.at.returns-in-Err c).After-prepare))

@@ -12,11 +12,6 @@ pub corner_at-a-requires : goal.corner_at-a-requires
 corner_at-a-requires c =
     omega (arith, ring_inside c.args.n c.args.count c.args.rings.now c.requires.ring_ends c.args.e c.args.r c.requires.ring_at)
 
-pub next_corner-requires : goal.next_corner-requires
-next_corner-requires c =
-    let here = c.requires.ring_at in
-    (omega (arith, here.ring, c.requires.ring_ends.reach), here.to)
-
 pub corner_at-b-requires : goal.corner_at-b-requires
 corner_at-b-requires c =
     let at = next_of_ring c.args.n c.args.count c.args.rings.now c.requires.ring_ends c.args.e c.args.r c.requires.ring_at in

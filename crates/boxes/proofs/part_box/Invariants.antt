@@ -1,11 +1,8 @@
 -- `boxes::part_box` meets its contract: the box of the edges read so far.
 use mathlib.Core.Path.{◌≡◌}
-use Prim.Native.Nat.{◌-◌, ◌≤◌, ◌<◌}
+use Prim.Native.Nat.{◌<◌}
 use Rattle.boxes.specs.Boxes.{box_of}
 use Rattle.boxes.proofs.part_box.Given as goal
 
 abbrev pub invariant-loop-k : goal.invariant-loop-k
-invariant-loop-k l = (0 < l.k) × (l.k ≤ l.size) × (l.ring < l.count) × (l.b ≡ box_of l.corners l.rings l.edges l.first l.k)
-
-abbrev pub decreases-loop-k : goal.decreases-loop-k
-decreases-loop-k l = l.size - l.k
+invariant-loop-k l = (l.ring < l.count) × (l.b ≡ box_of l.corners l.rings l.edges l.first l.k)

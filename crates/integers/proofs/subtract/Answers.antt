@@ -3,7 +3,4 @@ use Rattle.integers.proofs.Borrows.{words_exact}
 use Rattle.integers.proofs.subtract.Goals as goal
 
 pub returns : goal.returns
-returns c =
-    let a = c.args in
-    let low = c.subtract_word-low in
-    words_exact a.p a.q c.subtract_word-high.result.word low.result.word low.result.borrow c.subtract_word-high.result.borrow low.ensures c.subtract_word-high.ensures
+returns c = words_exact c.args.p c.args.q _ _ _ _ c.borrowing_sub-lo.ensures c.borrowing_sub-hi.ensures

@@ -1,13 +1,7 @@
 -- `nodes::names_edges` meets its contract: the places before k of the part name edges.
 use native.Mathlib.Omega.{arith}
-use Rattle.nodes.proofs.Tests.{edges_short, names_start, names_next, names_stray, names_done}
+use Rattle.nodes.proofs.Tests.{names_start, names_next, names_stray, names_done}
 use Rattle.nodes.proofs.names_edges.Goals as goal
-
-pub returns-then-edges-first : goal.returns-then-edges-first
-returns-then-edges-first c = let a = c.args in edges_short a.n a.edges.now a.first a.size (omega arith)
-
-pub returns-then-edges-first-2 : goal.returns-then-edges-first-2
-returns-then-edges-first-2 c = let a = c.args in edges_short a.n a.edges.now a.first a.size (omega arith)
 
 pub loop-k-init : goal.loop-k-init
 loop-k-init c = let a = c.args in names_start a.n a.edges.now a.first a.size (omega arith)

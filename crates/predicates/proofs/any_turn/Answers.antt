@@ -1,24 +1,23 @@
 -- `predicates::any_turn` meets its contract: two words and a borrow hold it.
-use mathlib.Core.Path.{◌≡◌, ◌∙◌}
-use lib.IntN.{◌-ℤ◌}
+use mathlib.Core.Path.{◌∙◌}
 use Rattle.integers.specs.Words.{wide_value_of}
-use Rattle.predicates.specs.Turn.{orientation}
-use Rattle.predicates.proofs.TurnSizes.{products_turn, products_fit}
+use Rattle.predicates.proofs.TurnSizes.{factors_fit, Crossed, crossed}
 use Rattle.predicates.proofs.any_turn.Goals as goal
-use Rattle.predicates.proofs.any_turn.Goals.{After-product_of_differences-q, Start}
+use Rattle.predicates.proofs.any_turn.Goals.{After-signed_product-q}
 
-module _ (c : After-product_of_differences-q) where
-  abbrev s : Start
-  s = c.before.before
+pub signed_product-p-requires : goal.signed_product-p-requires
+signed_product-p-requires c = let r = c.ranges in factors_fit _ _ _ _ _ _ r.bx r.ax r.cy r.ay c.difference.ensures c.difference-2.ensures
 
-  exact : wide_value_of c.product_of_differences-p.result -ℤ wide_value_of c.product_of_differences-q.result ≡ orientation (record { x = s.args.ax; y = s.args.ay }) (record { x = s.args.bx; y = s.args.by }) (record { x = s.args.cx; y = s.args.cy })
-  exact =
-      products_turn s.args.ax s.args.ay s.args.bx s.args.by s.args.cx s.args.cy c.product_of_differences-p.result c.product_of_differences-q.result
-      s.ranges.ax s.ranges.ay s.ranges.bx s.ranges.by s.ranges.cx s.ranges.cy c.product_of_differences-p.ensures c.product_of_differences-q.ensures
+pub signed_product-q-requires : goal.signed_product-q-requires
+signed_product-q-requires c = let r = c.ranges in factors_fit _ _ _ _ _ _ r.by r.ay r.cx r.ax c.difference-3.ensures c.difference-4.ensures
+
+products : (c : After-signed_product-q) → let a = c.args in Crossed (record { x = a.ax; y = a.ay }) (record { x = a.bx; y = a.by }) (record { x = a.cx; y = a.cy }) (wide_value_of c.signed_product-p.result) (wide_value_of c.signed_product-q.result)
+products c =
+    let r = c.ranges in
+    crossed _ _ _ _ _ _ _ _ _ (r.ax, r.ay) (r.bx, r.by) (r.cx, r.cy) c.difference.ensures c.difference-2.ensures c.signed_product-p.ensures c.difference-3.ensures c.difference-4.ensures c.signed_product-q.ensures
 
 pub signed_difference-requires : goal.signed_difference-requires
-signed_difference-requires c =
-    products_fit (record { x = c.args.ax; y = c.args.ay }) (record { x = c.args.bx; y = c.args.by }) (record { x = c.args.cx; y = c.args.cy }) c.product_of_differences-p.result c.product_of_differences-q.result (c.ranges.ax, c.ranges.ay) (c.ranges.bx, c.ranges.by) (c.ranges.cx, c.ranges.cy) (exact c)
+signed_difference-requires c = (products c).fits
 
 pub returns : goal.returns
-returns c = c.signed_difference.ensures ∙ exact (goal.at.returns c).After-product_of_differences-q
+returns c = c.signed_difference.ensures ∙ (products (goal.at.returns c).After-signed_product-q).turn

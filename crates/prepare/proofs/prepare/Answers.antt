@@ -1,4 +1,5 @@
 -- `prepare::prepare` meets its contract.
+use Rattle.std.proofs.lemmas.Result.{err_from_is_err_and}
 use mathlib.Core.Path.{refl, sym, ◌∙◌}
 use Rattle.rules.specs.Plans.{Plan}
 use Rattle.prepare.specs.Tables.{Tables, room_of}
@@ -12,24 +13,24 @@ put_plan-requires c =
     let a = c.args in
     let plan : Plan = record { kind = a.kind; coordinates = a.coordinates.now; lengths = a.lengths.now; counts = a.counts.now } in
     let tables : Tables = record { corners = a.corners.now; rings = a.rings.now; polygons = a.polygons.now; boxes = a.boxes.now; parts = a.parts.now; edges = a.edges.now } in
-    let answered = sym c.in-Ready.is ∙ c.answer.ensures in
-    plan_fits plan tables c.in-Ready.state c.in-Ready.nodes (given plan (room_of tables) c.in-Ready.state c.in-Ready.nodes answered)
+    let answered = sym c.in_ok-ready.was ∙ c.answer.ensures in
+    plan_fits plan tables c.in_ok-ready.ready.state c.in_ok-ready.ready.nodes (given plan (room_of tables) c.in_ok-ready.ready.state c.in_ok-ready.ready.nodes answered)
 
 pub put_index-requires : goal.put_index-requires
 put_index-requires c =
     let a = c.args in
     let plan : Plan = record { kind = a.kind; coordinates = a.coordinates.now; lengths = a.lengths.now; counts = a.counts.now } in
     let tables : Tables = record { corners = a.corners.now; rings = a.rings.now; polygons = a.polygons.now; boxes = a.boxes.now; parts = a.parts.now; edges = a.edges.now } in
-    let answered = sym c.in-Ready.is ∙ c.answer.ensures in
-    buildable plan tables c.in-Ready.state c.in-Ready.nodes (given plan (room_of tables) c.in-Ready.state c.in-Ready.nodes answered) _ _ _ c.put_plan.ensures
+    let answered = sym c.in_ok-ready.was ∙ c.answer.ensures in
+    buildable plan tables c.in_ok-ready.ready.state c.in_ok-ready.ready.nodes (given plan (room_of tables) c.in_ok-ready.ready.state c.in_ok-ready.ready.nodes answered) _ _ _ c.put_plan.ensures
 
-pub returns-in-Ready : goal.returns-in-Ready
-returns-in-Ready c =
+pub returns : goal.returns
+returns c =
     let a = c.args in
     let plan : Plan = record { kind = a.kind; coordinates = a.coordinates.now; lengths = a.lengths.now; counts = a.counts.now } in
     let tables : Tables = record { corners = a.corners.now; rings = a.rings.now; polygons = a.polygons.now; boxes = a.boxes.now; parts = a.parts.now; edges = a.edges.now } in
-    let answered = sym c.in-Ready.is ∙ c.answer.ensures in
-    prepared_as plan tables _ _ answered (filled plan tables c.in-Ready.state c.in-Ready.nodes (given plan (room_of tables) c.in-Ready.state c.in-Ready.nodes answered) _ c.put_plan.ensures c.put_index.ensures)
+    let answered = sym c.in_ok-ready.was ∙ c.answer.ensures in
+    prepared_as plan tables _ _ answered (filled plan tables c.in_ok-ready.ready.state c.in_ok-ready.ready.nodes (given plan (room_of tables) c.in_ok-ready.ready.state c.in_ok-ready.ready.nodes answered) _ c.put_plan.ensures c.put_index.ensures)
 
-pub returns-in-Refused : goal.returns-in-Refused
-returns-in-Refused c = prepared_as _ _ _ _ (sym c.in-Refused.is ∙ c.answer.ensures) refl
+pub returns-in_err-ready : goal.returns-in_err-ready
+returns-in_err-ready c = let p = err_from_is_err_and c.from_residual.result c.from_residual.ensures.1 in rw (p.1, p.2) (prepared_as _ _ _ _ (sym c.in_err-ready.was ∙ c.answer.ensures) refl)

@@ -1,8 +1,6 @@
 -- `refit::leaf_box` meets its contract.
-use mathlib.Core.Path.{◌≡◌, sym, ap, ◌∙◌}
-use Prim.Native.Nat.{◌+◌}
+use mathlib.Core.Path.{sym, ap, ◌∙◌}
 use native.Mathlib.Omega.{arith}
-use lib.ListN.{get_or}
 use Rattle.geom.specs.Boxes.{union_of}
 use Rattle.refit.specs.Refits.{leaf_box}
 use Rattle.refit.proofs.Fitting.{leaf_none, leaf_one, leaf_more}
@@ -13,30 +11,13 @@ returns-then-size-eq0 c =
     let a = c.args in
     c.empty.ensures ∙ sym (ap (leaf_box a.corners.now a.edges.now a.stops.now a.first) c.if-size-eq0.true ∙ leaf_none a.corners.now a.edges.now a.stops.now a.first)
 
-pub span-b-requires : goal.span-b-requires
-span-b-requires c =
-    let z : c.args.first + 0 ≡ c.args.first = omega arith in
-    (omega (arith, ap (λ x. get_or c.args.edges.now x 0) z, c.requires.spans.start 0 (omega arith)), omega (arith, c.requires.spans.stop 0 (omega arith)))
-
 pub loop-j-init : goal.loop-j-init
 loop-j-init c =
     let a = c.args in
-    (omega arith, omega arith, c.span-b.ensures ∙ sym (leaf_one a.corners.now a.edges.now a.stops.now a.first))
-
-pub span-requires : goal.span-requires
-span-requires c =
-    let l = c.loop-j in
-    (omega (arith, c.requires.spans.start l.j (omega arith)), omega (arith, c.requires.spans.stop l.j (omega arith)))
+    (omega arith, c.span-b.ensures ∙ sym (leaf_one a.corners.now a.edges.now a.stops.now a.first))
 
 pub loop-j-preserved : goal.loop-j-preserved
 loop-j-preserved c =
     let a = c.args in
     let l = c.loop-j in
-    (omega arith, omega arith, c.union-b.ensures ∙ (λ i. union_of (l.invariant.2 i) (c.span.ensures i)) ∙ sym (leaf_more a.corners.now a.edges.now a.stops.now a.first l.j l.invariant.0))
-
-pub returns : goal.returns
-returns c =
-    let a = c.args in
-    let l = c.loop-j in
-    let e : l.j ≡ a.size = omega arith in
-    l.invariant.2 ∙ ap (leaf_box a.corners.now a.edges.now a.stops.now a.first) e
+    (omega arith, c.union-b.ensures ∙ (λ i. union_of (l.invariant.1 i) (c.span.ensures i)) ∙ sym (leaf_more a.corners.now a.edges.now a.stops.now a.first l.j l.invariant.0))

@@ -1,59 +1,30 @@
--- `text::line_span` meets its contract: the line that the search has come to, and its number.
+-- `text::line_span` meets its contract: where the line stands that the search has come to.
 use native.Mathlib.Omega.{arith}
-use lib.ListN.{length}
-use Rattle.text.proofs.LineSearch.{both_below, second_above, numbered_begun, starts, numbered_onward, line_found, no_line}
+use Rattle.text.proofs.LineSearch.{numbered_begun, no_line_nought, numbered_onward, no_line, ended_line, last_line}
 use Rattle.text.proofs.line_span.Goals as goal
 
+pub returns-then-k-eq0 : goal.returns-then-k-eq0
+returns-then-k-eq0 c = no_line_nought c.args.text.now c.args.k c.if-k-eq0.true
+
 pub loop-number-init : goal.loop-number-init
-loop-number-init c =
-    let a = c.args in
-    numbered_begun a.text.now a.k c.find-end.result c.find-end.ensures
+loop-number-init c = numbered_begun c.args.text.now c.args.k (let h = c.if-k-eq0.false in omega (arith, h))
 
-pub overflow_add-number : goal.overflow_add-number
-overflow_add-number c =
-    let a = c.args in
-    let l = c.loop-number in
-    let t = both_below l.number a.k l.end (length a.text.now) c.loop-number-test.true in
-    let f = c.ranges.k in
-    omega arith
-
-pub overflow_add-from : goal.overflow_add-from
-overflow_add-from c =
-    let a = c.args in
-    let l = c.loop-number in
-    let t = both_below l.number a.k l.end (length a.text.now) c.loop-number-test.true in
-    omega arith
-
-pub loop-number-smaller : goal.loop-number-smaller
-loop-number-smaller c =
-    let a = c.args in
-    let l = c.loop-number in
-    let t = both_below l.number a.k l.end (length a.text.now) c.loop-number-test.true in
-    let s = starts a.text.now a.k l.number l.from l.end l.invariant in
-    omega arith
+pub returns-in_default : goal.returns-in_default
+returns-in_default c = let l = c.loop-number in no_line c.args.text.now c.args.k l._number l.offset l.rest.now l.invariant c.loop-number-test.true c.in_default.ensures
 
 pub loop-number-preserved : goal.loop-number-preserved
-loop-number-preserved c =
-    let a = c.args in
-    let l = c.loop-number in
-    let t = both_below l.number a.k l.end (length a.text.now) c.loop-number-test.true in
-    numbered_onward a.text.now a.k l.number l.from l.end l.invariant t.0 t.1 c.find-end-in-loop-number.result c.find-end-in-loop-number.ensures
+loop-number-preserved c = let l = c.loop-number in numbered_onward c.args.text.now c.args.k l._number l.offset l.rest.now l.invariant c.loop-number-test.true c.in-Some.line.now c.in-Some.after.now c.in-Some.ensures
 
-pub overflow_sub-length : goal.overflow_sub-length
-overflow_sub-length c =
-    let a = c.args in
+pub returns-in-Some-split_once : goal.returns-in-Some-split_once
+returns-in-Some-split_once c =
     let l = c.loop-number in
-    let s = starts a.text.now a.k l.number l.from l.end l.invariant in
-    omega arith
+    let h = c.if-k-eq0.false in
+    let e = l.auto._number-end in
+    ended_line c.args.text.now c.args.k l._number l.offset l.rest.now l.invariant (let t = c.loop-number-test.false in omega (arith, h, e, t)) c.in-Some-split_once.line.now c.in-Some-split_once.field-0-1.now c.in-Some-split_once.ensures
 
-pub returns-then-number-k : goal.returns-then-number-k
-returns-then-number-k c =
-    let a = c.args in
+pub returns-in-None : goal.returns-in-None
+returns-in-None c =
     let l = c.loop-number in
-    line_found a.text.now a.k l.number l.from l.end l.invariant c.if-number-k.true
-
-pub returns : goal.returns
-returns c =
-    let a = c.args in
-    let l = c.loop-number in
-    no_line a.text.now a.k l.number l.from l.end l.invariant c.if-number-k.false (second_above l.number a.k l.end (length a.text.now) c.loop-number-test.false)
+    let h = c.if-k-eq0.false in
+    let e = l.auto._number-end in
+    last_line c.args.text.now c.args.k l._number l.offset l.rest.now l.invariant (let t = c.loop-number-test.false in omega (arith, h, e, t)) c.in-None.ensures

@@ -7,23 +7,23 @@ use Rattle.writer.proofs.Sums.{map_same, summed, summed_on, sum_within, summed_u
 use native.Mathlib.Omega.{arith}
 use Rattle.writer.proofs.corner_count.Goals as goal
 
-pub loop-i-init : goal.loop-i-init
-loop-i-init c = (omega arith, summed (λ n. n) c.args.lengths.now)
+pub loop-corners-init : goal.loop-corners-init
+loop-corners-init c = (omega arith, summed (λ n. n) c.args.lengths.now)
 
 pub overflow_add-sum : goal.overflow_add-sum
 overflow_add-sum c =
     let xs = c.args.lengths.now in
-    let l = c.loop-i in
-    omega (arith, c.requires, ap total (map_same xs), sum_within (λ n. n) xs l.sum l.i l.invariant.1 (get_or xs l.i 0) (drop-cons xs l.i 0 c.loop-i-test.true))
+    let l = c.loop-corners in
+    omega (arith, c.requires, ap total (map_same xs), sum_within (λ n. n) xs l.sum l.corners-index l.invariant.1 (get_or xs l.corners-index 0) (drop-cons xs l.corners-index 0 c.loop-corners-test.true))
 
-pub loop-i-preserved : goal.loop-i-preserved
-loop-i-preserved c =
+pub loop-corners-preserved : goal.loop-corners-preserved
+loop-corners-preserved c =
     let xs = c.args.lengths.now in
-    let l = c.loop-i in
-    (omega (arith, c.loop-i-test.true), summed_on (λ n. n) xs l.sum l.i l.invariant.1 (get_or xs l.i 0) (drop-cons xs l.i 0 c.loop-i-test.true))
+    let l = c.loop-corners in
+    (omega (arith, c.loop-corners-test.true), summed_on (λ n. n) xs l.sum l.corners-index l.invariant.1 (get_or xs l.corners-index 0) (drop-cons xs l.corners-index 0 c.loop-corners-test.true))
 
 pub returns : goal.returns
 returns c =
     let xs = c.args.lengths.now in
-    let l = c.loop-i in
-    summed_up (λ n. n) xs l.sum l.i l.invariant.1 (drop_of_length-le xs {i = l.i} c.loop-i-test.false) ∙ ap total (map_same xs)
+    let l = c.loop-corners in
+    summed_up (λ n. n) xs l.sum l.corners-index l.invariant.1 (drop_of_length-le xs {i = l.corners-index} c.loop-corners-test.false) ∙ ap total (map_same xs)

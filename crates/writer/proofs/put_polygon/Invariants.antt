@@ -1,11 +1,6 @@
 -- `writer::put_polygon` meets its contract.
-use Prim.Native.Nat.{◌-◌}
-use lib.ListN.{length}
 use Rattle.writer.proofs.Polygons.{Drawing}
 use Rattle.writer.proofs.put_polygon.Given as goal
 
 abbrev pub invariant-loop-i : goal.invariant-loop-i
 invariant-loop-i l = Drawing l.coordinates l.lengths l.at l.initial.output l.output l.place l.first l.i
-
-abbrev pub decreases-loop-i : goal.decreases-loop-i
-decreases-loop-i l = length l.lengths - l.i

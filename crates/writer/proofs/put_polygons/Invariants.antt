@@ -1,11 +1,6 @@
 -- `writer::put_polygons` meets its contract.
-use Prim.Native.Nat.{◌-◌}
-use lib.ListN.{length}
 use Rattle.writer.proofs.Members.{Listing}
 use Rattle.writer.proofs.put_polygons.Given as goal
 
 abbrev pub invariant-loop-i : goal.invariant-loop-i
 invariant-loop-i l = Listing l.coordinates l.lengths l.counts l.at l.initial.output l.output l.place l.first l.ring l.i
-
-abbrev pub decreases-loop-i : goal.decreases-loop-i
-decreases-loop-i l = length l.counts - l.i

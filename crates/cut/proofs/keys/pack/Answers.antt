@@ -15,8 +15,6 @@ use Rattle.cut.proofs.keys.pack.Goals.{After-key_of, In-loop-i}
 pub loop-i-init : goal.loop-i-init
 loop-i-init c =
     let a = c.args in (
-      omega arith,
-      omega arith,
       λ some. (searchable a.n a.count a.rings.now c.requires.ring_ends (get_or a.edges.now a.first 0) (c.requires.names.each a.first (omega arith) some)).0,
       mapped_none (packed_edge a.corners.now a.rings.now a.axis) a.first a.edges.now,
     )
@@ -26,7 +24,7 @@ named : (c : In-loop-i) → get_or c.loop-i.edges c.loop-i.i 0 < c.args.n
 named c =
     let a = c.args in
     let l = c.loop-i in
-    mapped_names (packed_edge a.corners.now a.rings.now a.axis) a.n a.first a.size l.i a.edges.now l.edges l.invariant.3 c.requires.names l.invariant.0 c.loop-i-test.true
+    mapped_names (packed_edge a.corners.now a.rings.now a.axis) a.n a.first a.size l.i a.edges.now l.edges l.invariant.1 c.requires.names (omega arith) c.loop-i-test.true
 
 -- the key as it was read
 keyed : (c : After-key_of) → let a = c.args in let l = c.loop-i in rd c.key_of.result ≡ edge_key a.corners.now a.rings.now a.axis (get_or l.edges l.i 0)
@@ -35,18 +33,12 @@ keyed c =
     let a = c.args in
     rd_is c.key_of.result (record { sfits = c.key_of.type_inv }) ∙ c.key_of.ensures ∙ ap (key_of a.axis) c.edge_box-b.ensures
 
-pub bounds-edges-i : goal.bounds-edges-i
-bounds-edges-i c = omega (arith, c.loop-i.invariant.3.long, c.requires.names.inside)
-
 pub ring_near-ring-requires : goal.ring_near-ring-requires
 ring_near-ring-requires c =
     let a = c.args in
     let l = c.loop-i in
     let asks = searchable a.n a.count a.rings.now c.requires.ring_ends (get_or l.edges l.i 0) (named (goal.at.ring_near-ring-requires c).In-loop-i) in
-    (l.invariant.2 c.loop-i-test.true, asks.1, asks.2)
-
-pub edge_box-b-requires : goal.edge_box-b-requires
-edge_box-b-requires c = record { n_in_bounds = c.requires.corners_near.reach; ring_ends = c.requires.ring_ends; ring_at = c.ring_near-ring.ensures }
+    (l.invariant.0 c.loop-i-test.true, asks.1, asks.2)
 
 pub key_of-requires : goal.key_of-requires
 key_of-requires c =
@@ -61,34 +53,19 @@ packed-requires c =
     let here = named (goal.at.packed-requires c).In-loop-i in
     (rw (keyed c) (key_small a.axis (edge_box a.corners.now a.rings.now (get_or l.edges l.i 0)) (edge_near a.n a.count a.corners.now a.rings.now c.requires.corners_near c.requires.ring_ends (get_or l.edges l.i 0) here)), omega (arith, here, c.requires.corners_near.few))
 
-pub bounds-edges-i-in-loop-i : goal.bounds-edges-i-in-loop-i
-bounds-edges-i-in-loop-i c = omega (arith, c.loop-i.invariant.3.long, c.requires.names.inside, c.loop-i-test.true)
-
-pub overflow_add-i : goal.overflow_add-i
-overflow_add-i c = omega (arith, c.loop-i-test.true, c.requires.names.inside)
-
-pub loop-i-smaller : goal.loop-i-smaller
-loop-i-smaller c = omega (arith, c.loop-i-test.true)
-
 pub loop-i-preserved : goal.loop-i-preserved
 loop-i-preserved c =
     let a = c.args in
     let l = c.loop-i in
-    let g = packed_edge a.corners.now a.rings.now a.axis in
-    let more = c.loop-i-test.true in (
-      omega (arith, l.invariant.0),
-      omega arith,
+    let g = packed_edge a.corners.now a.rings.now a.axis in (
       λ some. c.ring_near-ring.ensures.ring,
-      mapped_more g a.first l.i a.edges.now l.edges c.packed.result l.invariant.0 (omega (arith, c.requires.names.inside))
-          (c.packed.ensures ∙ ap (λ key. packed_of key (get_or l.edges l.i 0)) (keyed (goal.at.loop-i-preserved c).After-key_of) ∙ ap g (mapped_next g a.first l.i a.edges.now l.edges l.invariant.3)) l.invariant.3,
+      mapped_more g a.first l.i a.edges.now l.edges c.packed.result (omega arith) (omega (arith, c.requires.names.inside))
+          (c.packed.ensures ∙ ap (λ key. packed_of key (get_or l.edges l.i 0)) (keyed (goal.at.loop-i-preserved c).After-key_of) ∙ ap g (mapped_next g a.first l.i a.edges.now l.edges l.invariant.1)) l.invariant.1,
     )
-
-pub shape_of-edges : goal.shape_of-edges
-shape_of-edges c = c.loop-i.invariant.3.long
 
 pub returns : goal.returns
 returns c =
     let a = c.args in
     let l = c.loop-i in
-    let e : l.i ≡ a.first + a.size = omega (arith, l.invariant.1, c.loop-i-test.false) in
-    rw e at l.invariant.3
+    let e : l.i ≡ a.first + a.size = omega (arith, c.loop-i-test.false) in
+    rw e at l.invariant.1

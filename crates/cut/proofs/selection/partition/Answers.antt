@@ -11,27 +11,6 @@ pub loop-i-init : goal.loop-i-init
 loop-i-init c = let a = c.args in
     (parting_start a.lo a.hi a.v a.values.now a.values.now c.requires.0, refl, omega arith)
 
-pub overflow_add-reads : goal.overflow_add-reads
-overflow_add-reads c = omega arith
-
-pub offset_bounds-values-i : goal.offset_bounds-values-i
-offset_bounds-values-i c = omega arith
-
-pub bounds-values-i : goal.bounds-values-i
-bounds-values-i c = omega arith
-
-pub swap-requires : goal.swap-requires
-swap-requires c = omega arith
-
-pub overflow_add-s : goal.overflow_add-s
-overflow_add-s c = omega arith
-
-pub overflow_add-i : goal.overflow_add-i
-overflow_add-i c = omega arith
-
-pub loop-i-smaller : goal.loop-i-smaller
-loop-i-smaller c = omega arith
-
 pub loop-i-preserved : goal.loop-i-preserved
 loop-i-preserved c =
     let l = c.loop-i in
@@ -39,10 +18,10 @@ loop-i-preserved c =
     let few : l.i < a.hi = omega arith in
     rw c.swap.ensures (
       elim c.if-x-v.branch [
-        | then-x-v w ↦ rw w.s-is (parting_in a.lo a.hi a.v a.values.now l.values l.s l.i l.invariant.0 few c.requires.1 w.if-x-v.true)
-        | else-x-v w ↦ rw w.s-is (parting_out a.lo a.hi a.v a.values.now l.values l.s l.i l.invariant.0 few c.requires.1 w.if-x-v.false)
+        | then-x-v w ↦ rw w.place-is (parting_in a.lo a.hi a.v a.values.now l.values l.place l.i l.invariant.0 few c.requires.1 w.if-x-v.true)
+        | else-x-v w ↦ rw w.place-is (parting_out a.lo a.hi a.v a.values.now l.values l.place l.i l.invariant.0 few c.requires.1 w.if-x-v.false)
       ],
-      length_swapped l.s l.i l.values ∙ l.invariant.1,
+      length_swapped l.place l.i l.values ∙ l.invariant.1,
       omega arith,
     )
 
@@ -54,6 +33,6 @@ returns c =
     let l = c.loop-i in
     let a = c.args in
     record {
-      parted = parting_done a.lo a.hi a.v a.values.now l.values l.s l.i l.invariant.0 c.loop-i-test.false;
+      parted = parting_done a.lo a.hi a.v a.values.now l.values l.place l.i l.invariant.0 c.loop-i-test.false;
       read = omega (arith, l.invariant.0.to);
     }

@@ -1,7 +1,9 @@
 -- `findspot::input::read_input`: what a read moved stands behind what stood there.
 use Rattle.std.proofs.Common.{◌≡◌, ℕ, ◌+◌, ◌-◌, ◌≤◌, List, ◌++◌, rules, arith, length, take, slice_range, sym, ap, ◌∙◌, subst, le_refl, drop_at, length-take-le}
 use Rattle.std.proofs.lemmas.Slice.{take-put_mid_below}
+use Rattle.std.specs.Prelude.{Ok}
 use Rattle.std.specs.Io.KnownBytes.{Consumes}
+use Rattle.findspot.specs.Inputs.{Came}
 use Rattle.std.proofs.KnownBytes.{Consumes-trans}
 use borrow.Rule.Slice.PartMut.{put_mid, post_of}
 use lib.Seq.{take-add, take-append-le}
@@ -21,10 +23,10 @@ slice_range-put_mid a k n xs ys within fits =
 pub loop-held-preserved : goal.loop-held-preserved
 loop-held-preserved g c =
     let from = c.loop-held.held in
-    let count = c.in-Bytes.count in
+    let count = c.in-Some.count in
     let room = length c.loop-held.buffer - from in
     let within = c.loop-held.invariant.1 in
-    let came = c.in-Bytes.ensures in
+    let came = subst (Came (g.R.Read.remaining c.loop-held.source) (g.R.Read.remaining c.read_some.new.source) c.read_some.new.part) (c.in_ok-count.was ∙ ap Ok c.in-Some.is) c.read_some.ensures in
     let part = slice_range-put_mid from room count c.loop-held.buffer c.read_some.new.part within came.1.0 in
     let joined = take_split from (from + count) c.loop-held.buffer (put_mid from room c.loop-held.buffer c.read_some.new.part) (omega arith) (take-put_mid_below _ _ _ _ _ (le_refl _) within) in
     (search rules, search rules, subst (Consumes _ _) (ap (λ l. take from c.loop-held.buffer ++ l) (sym part) ∙ joined) (Consumes-trans _ _ _ _ _ c.loop-held.invariant.2 came.2))

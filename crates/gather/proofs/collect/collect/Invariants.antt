@@ -10,7 +10,7 @@ use Rattle.gather.proofs.collect.collect.Given as goal
 
 abbrev pub invariant-loop-leaf : goal.invariant-loop-leaf
 invariant-loop-leaf l =
-    (length l.stack ≡ 18) × Room l.here (length l.listed) (length l.slots) × (is_listed l.here ≡ is_listed l.initial.here) × (length l.listed ≡ length l.initial.listed) × (length l.slots ≡ length l.initial.slots) × (WalkedSound l.n l.count l.corners l.rings l.boxes l.parts l.edges → Tallied l.count [] l.initial.here l.initial.listed l.initial.slots → Collecting l.n l.count l.corners l.rings l.parts l.edges l.ray l.query l.p l.stack l.cursor l.here l.listed l.slots)
+    (length l.stack ≡ 18) × Room l.here.layout (length l.listed) (length l.slots) × (is_listed l.here.layout ≡ is_listed l.initial.here.layout) × (WalkedSound l.n l.count l.corners l.rings l.boxes l.parts l.edges → Tallied l.count [] l.initial.here.layout l.initial.listed l.initial.slots → Collecting l.n l.count l.corners l.rings l.parts l.edges l.ray l.query l.p l.stack l.cursor l.here.layout l.listed l.slots)
 
 abbrev pub decreases-loop-leaf : goal.decreases-loop-leaf
 decreases-loop-leaf l = remaining l.cursor

@@ -1,6 +1,6 @@
 -- `gather::collect::note_leaf` meets its contract, edge by edge.
 use mathlib.Core.Path.{◌≡◌}
-use Prim.Native.Nat.{◌-◌, ◌≤◌}
+use Prim.Native.Nat.{◌≤◌}
 use lib.ListN.{length}
 use Rattle.boxes.specs.Rings.{RingEnds}
 use Rattle.walk.specs.declared.Query.{Query}
@@ -10,7 +10,4 @@ use Rattle.gather.proofs.collect.note_leaf.Given as goal
 
 abbrev pub invariant-loop-k : goal.invariant-loop-k
 invariant-loop-k l =
-    (l.at ≤ l.k) × (l.k ≤ l.to) × Room l.here (length l.listed) (length l.slots) × (is_listed l.here ≡ is_listed l.initial.here) × (length l.listed ≡ length l.initial.listed) × (length l.slots ≡ length l.initial.slots) × ((query : Query) → l.n ≤ 1048576 → l.to ≤ l.n → RingEnds l.n l.count l.rings → ToldTo l.n l.count l.corners l.rings l.edges l.ray query l.p l.at l.initial.here l.initial.listed l.initial.slots → ToldTo l.n l.count l.corners l.rings l.edges l.ray query l.p l.k l.here l.listed l.slots)
-
-abbrev pub decreases-loop-k : goal.decreases-loop-k
-decreases-loop-k l = l.to - l.k
+    Room l.here.layout (length l.listed) (length l.slots) × (is_listed l.here.layout ≡ is_listed l.initial.here.layout) × ((query : Query) → l.n ≤ 1048576 → l.to ≤ l.n → RingEnds l.n l.count l.rings → ToldTo l.n l.count l.corners l.rings l.edges l.ray query l.p l.at l.initial.here.layout l.initial.listed l.initial.slots → ToldTo l.n l.count l.corners l.rings l.edges l.ray query l.p l.k l.here.layout l.listed l.slots)

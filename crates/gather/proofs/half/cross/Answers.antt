@@ -6,23 +6,23 @@ use Rattle.rays.specs.Along.{is_crossed}
 use Rattle.rays.specs.Numbered.{half_crossing_at}
 use Rattle.rays.proofs.EdgesAlong.{crossed_once_lem}
 use Rattle.gather.specs.Collections.{MetFound}
+use Rattle.gather.proofs.Collecting.{half_met_found}
 use Rattle.gather.proofs.half.cross.Goals as goal
-use Rattle.gather.proofs.half.cross.Goals.{In-At}
+use Rattle.gather.proofs.half.cross.Goals.{After-crossing_along-crossing}
 
 -- how the edge counts
-found : (c : In-At) → MetFound c.args.n c.args.count c.args.rings.now (half_crossing_at c.args.n c.args.corners.now c.args.rings.now c.args.ray c.args.p) c.args.e c.in-At.ring c.in-At.crossing
-found c = rw c.in-At.is at c.half_met_at.ensures
+found : (c : After-crossing_along-crossing) → let a = c.args in MetFound a.n a.count a.rings.now (half_crossing_at a.n a.corners.now a.rings.now a.ray a.p) a.e c.in_ok-edge.edge.ring c.crossing_along-crossing.result
+found c =
+    let a = c.args in
+    half_met_found a.n a.count a.corners.now a.rings.now a.ray a.p a.e c.in_ok-edge.edge c.in_ok-edge.ensures c.crossing_along-crossing.result _ _ c.doubled_corner.ensures c.doubled_corner-2.ensures c.crossing_along-crossing.ensures
 
 pub returns-then-is_on : goal.returns-then-is_on
-returns-then-is_on c = λ R. ap is_on (sym ((found (goal.at.returns-then-is_on c).In-At).crossing_is R)) ∙ sym c.is_on.ensures ∙ c.if-is_on.true
+returns-then-is_on c = λ R. ap is_on (sym ((found (goal.at.returns-then-is_on c).After-crossing_along-crossing).crossing_is R)) ∙ sym c.is_on.ensures ∙ c.if-is_on.true
 
-pub returns-in-Unsound : goal.returns-in-Unsound
-returns-in-Unsound c = rw c.in-Unsound.is at c.half_met_at.ensures
-
-pub returns-else-is_on : goal.returns-else-is_on
-returns-else-is_on c =
-    let F = found (goal.at.returns-else-is_on c).In-At in
+pub returns : goal.returns
+returns c =
+    let F = found (goal.at.returns c).After-crossing_along-crossing in
     record {
       off = λ R. ap is_on (sym (F.crossing_is R)) ∙ sym c.is_on.ensures ∙ c.if-is_on.false;
-      parity = λ R. c.turned_over.ensures ∙ crossed_once_lem c.args.odd c.in-At.crossing ∙ ap (λ x. xor c.args.odd (is_crossed x)) (F.crossing_is R);
+      parity = λ R. c.turned_over.ensures ∙ crossed_once_lem c.args.odd c.crossing_along-crossing.result ∙ ap (λ x. xor c.args.odd (is_crossed x)) (F.crossing_is R);
     }

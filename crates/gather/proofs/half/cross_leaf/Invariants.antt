@@ -1,5 +1,4 @@
 -- `gather::half::cross_leaf` meets its contract, edge by edge.
-use Prim.Native.Nat.{◌-◌, ◌≤◌}
 use Rattle.boxes.specs.Rings.{RingEnds}
 use Rattle.walk.specs.declared.Query.{Query}
 use Rattle.rays.specs.Numbered.{half_crossing_at}
@@ -8,7 +7,4 @@ use Rattle.gather.proofs.half.cross_leaf.Given as goal
 
 abbrev pub invariant-loop-k : goal.invariant-loop-k
 invariant-loop-k l =
-    (l.at ≤ l.k) × (l.k ≤ l.to) × ((query : Query) → RingEnds l.n l.count l.rings → ParityTo l.at l.corners l.rings l.edges query (half_crossing_at l.n l.corners l.rings l.ray l.p) l.initial.here → ParityTo l.k l.corners l.rings l.edges query (half_crossing_at l.n l.corners l.rings l.ray l.p) l.here)
-
-abbrev pub decreases-loop-k : goal.decreases-loop-k
-decreases-loop-k l = l.to - l.k
+    (query : Query) → RingEnds l.n l.count l.rings → ParityTo l.at l.corners l.rings l.edges query (half_crossing_at l.n l.corners l.rings l.ray l.p) l.initial.here.odd → ParityTo l.k l.corners l.rings l.edges query (half_crossing_at l.n l.corners l.rings l.ray l.p) l.here.odd

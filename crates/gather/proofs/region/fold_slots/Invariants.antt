@@ -1,5 +1,5 @@
 -- `gather::region::fold_slots` meets its contract.
-use Prim.Native.Nat.{ℕ, ◌-◌, ◌≤◌}
+use Prim.Native.Nat.{ℕ}
 use Rattle.rules.specs.declared.Location.{Location}
 use Rattle.fold.specs.Folds.{Fits}
 use Rattle.gather.specs.Regions.{SlotsPlace}
@@ -8,7 +8,4 @@ use Rattle.gather.proofs.region.fold_slots.Given as goal
 
 abbrev pub invariant-loop-k : goal.invariant-loop-k
 invariant-loop-k l =
-    (l.k ≤ l.size) × ((places : ℕ → Location) → Fits l.kind l.count l.polygon_count l.polygons → SlotsPlace places l.count l.layout l.listed l.slots → FoldedTo l.kind places l.polygons l.polygon_count l.count l.layout l.listed l.k l.fold)
-
-abbrev pub decreases-loop-k : goal.decreases-loop-k
-decreases-loop-k l = l.size - l.k
+    (places : ℕ → Location) → Fits l.kind l.count l.polygon_count l.polygons → SlotsPlace places l.count l.layout l.listed l.slots → FoldedTo l.kind places l.polygons l.polygon_count l.count l.layout l.listed l.k l.fold

@@ -1,19 +1,12 @@
 -- `gather::region::many_rings` meets its contract.
-use mathlib.Core.Path.{◌∙◌, ap}
-use Rattle.rays.specs.Reach.{ray_rect}
-use Rattle.walk.specs.declared.Query.TheVariants.{Meeting}
+use mathlib.Core.Bool.{false}
 use native.Mathlib.Omega.{arith}
 use lib.IntN.{pos}
 use lib.ListN.{get_or-replicate}
-use mathlib.Core.Bool.{false}
 use Rattle.gather.specs.Regions.{LookSound}
 use Rattle.gather.proofs.Tallying.{each_none}
 use Rattle.gather.proofs.Looking.{region_from}
 use Rattle.gather.proofs.region.many_rings.Goals as goal
-
-pub region_by-requires : goal.region_by-requires
-region_by-requires c =
-    record { room = omega arith; as_stated = (c.requires.0, c.requires.1, c.requires.2, ap Meeting (c.ray_rect.ensures ∙ ap (λ root. ray_rect c.args.ray root c.args.p) c.rect_at.ensures)) }
 
 pub returns : goal.returns
 returns c =

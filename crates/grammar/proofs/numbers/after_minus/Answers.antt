@@ -1,30 +1,18 @@
 -- `grammar::numbers::after_minus` meets its contract.
-use mathlib.Core.Path.{sym, subst, ◌∙◌}
+use borrow.Author.Rules.{rules}
 use Prim.Native.Nat.{◌-◌}
-use native.Mathlib.Omega.{arith}
-use lib.Dec.{T}
 use lib.ListN.{get_or}
-use Rattle.grammar.proofs.Digits.{digit_range}
-use Rattle.grammar.proofs.Tokens.{minus_early, minus_other, minus_zero, minus_digit}
+use Rattle.grammar.proofs.Tokens.{minus_early, minus_below, minus_other, minus_digit, above_digits, digit_there}
 use Rattle.grammar.proofs.numbers.after_minus.Goals as goal
 
-pub returns-then-at-text : goal.returns-then-at-text
-returns-then-at-text c = let a = c.args in minus_early a.text.now a.at (let e = c.if-at-text.true in omega (arith, e))
+pub returns-in-Some-49-to-57 : goal.returns-in-Some-49-to-57
+returns-in-Some-49-to-57 c = let a = c.args in minus_digit a.text.now a.at c.more_digits.result (get_or a.text.now a.at 0 - 49) (search rules) (digit_there (get_or c.args.text.now c.args.at 0) (search rules) (search rules)) (search rules) (search rules)
 
-pub returns-then-not-is_digit : goal.returns-then-not-is_digit
-returns-then-not-is_digit c = let a = c.args in minus_other a.text.now a.at (let p = c.requires in let n = c.if-at-text.false in omega (arith, p, n)) (sym c.is_digit.ensures ∙ c.if-not-is_digit.true)
+pub returns-in_default : goal.returns-in_default
+returns-in_default c = let a = c.args in let l = c.get.ensures.lookup in minus_below a.text.now a.at (search rules) (search rules)
 
-pub returns-then-byte-eq48 : goal.returns-then-byte-eq48
-returns-then-byte-eq48 c = let a = c.args in minus_zero a.text.now a.at (let p = c.requires in let n = c.if-at-text.false in omega (arith, p, n)) c.if-byte-eq48.true
+pub returns-in_default-2 : goal.returns-in_default-2
+returns-in_default-2 c = let a = c.args in minus_other a.text.now a.at (search rules) (above_digits (get_or c.args.text.now c.args.at 0) (search rules))
 
-pub overflow_sub-byte : goal.overflow_sub-byte
-overflow_sub-byte c = let a = c.args in let d = (digit_range (get_or a.text.now a.at 0) (sym c.is_digit.ensures ∙ c.if-not-is_digit.false)).0 in let z = c.if-byte-eq48.false in omega (arith, d, z)
-
-pub overflow_cast-byte : goal.overflow_cast-byte
-overflow_cast-byte c = let a = c.args in let d = digit_range (get_or a.text.now a.at 0) (sym c.is_digit.ensures ∙ c.if-not-is_digit.false) in let l = d.0 in let g = d.1 in let z = c.if-byte-eq48.false in omega (arith, g)
-
-pub more_digits-requires : goal.more_digits-requires
-more_digits-requires c = let a = c.args in let d = digit_range (get_or a.text.now a.at 0) (sym c.is_digit.ensures ∙ c.if-not-is_digit.false) in let l = d.0 in let g = d.1 in let z = c.if-byte-eq48.false in (let p = c.requires in let n = c.if-at-text.false in omega (arith, p, n), omega (arith, g), λ e. absurd (subst T e tt))
-
-pub returns : goal.returns
-returns c = let a = c.args in let d = digit_range (get_or a.text.now a.at 0) (sym c.is_digit.ensures ∙ c.if-not-is_digit.false) in let l = d.0 in let z = c.if-byte-eq48.false in minus_digit a.text.now a.at c.more_digits.result (get_or a.text.now a.at 0 - 49) (let p = c.requires in let n = c.if-at-text.false in omega (arith, p, n)) (sym c.is_digit.ensures ∙ c.if-not-is_digit.false) (omega (arith, l, z)) c.more_digits.ensures
+pub returns-in_default-3 : goal.returns-in_default-3
+returns-in_default-3 c = let a = c.args in minus_early a.text.now a.at (search rules)

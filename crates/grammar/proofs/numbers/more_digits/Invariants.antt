@@ -1,12 +1,7 @@
 -- `grammar::numbers::more_digits` meets its contract.
-use Prim.Native.Nat.{◌-◌}
-use lib.ListN.{length}
 use Rattle.grammar.specs.Numbers.{value_begun}
 use Rattle.grammar.proofs.Tokens.{More}
 use Rattle.grammar.proofs.numbers.more_digits.Given as goal
 
 abbrev pub invariant-loop-place : goal.invariant-loop-place
 invariant-loop-place l = More l.text l.at (value_begun (record { below = l.below; size = l.size })) l.below l.worth l.place
-
-abbrev pub decreases-loop-place : goal.decreases-loop-place
-decreases-loop-place l = length l.text - l.place

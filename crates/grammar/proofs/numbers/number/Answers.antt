@@ -1,33 +1,29 @@
 -- `grammar::numbers::number` meets its contract.
-use mathlib.Core.Path.{sym, ap, ◌∙◌}
-use Prim.Native.Nat.{◌-◌}
+use borrow.Author.Rules.{rules}
+use mathlib.Core.Path.{◌≡◌, ap, ◌∙◌}
+use Prim.Native.Nat.{◌+◌, ◌-◌, ◌≤◌, ◌<◌}
 use native.Mathlib.Omega.{arith}
-use lib.ListN.{get_or}
-use Rattle.grammar.specs.Numbers.{minus_begun, value_begun, plain}
-use Rattle.grammar.proofs.Digits.{digit_range}
-use Rattle.grammar.proofs.Tokens.{number_early, number_off, number_begun, first_minus, first_digit, first_off}
+use Rattle.std.specs.Prelude.{Some}
+use Rattle.grammar.specs.Numbers.{minus_begun, value_begun, plain, first_byte}
+use Rattle.grammar.specs.Tokens.{within, NumberRead}
+use Rattle.grammar.proofs.Steps.{byte_inside, byte_is, no_byte}
+use Rattle.grammar.proofs.Tokens.{number_early, number_off, number_begun, first_digit, first_off, below_digits, above_digits, digit_there}
 use Rattle.grammar.proofs.numbers.number.Goals as goal
 
-pub returns-then-start-text : goal.returns-then-start-text
-returns-then-start-text c = let a = c.args in number_early a.text.now a.at c.skip_spaces-start.result c.skip_spaces-start.ensures (let e = c.if-start-text.true in omega (arith, e))
+pub returns-in-Some-eq45 : goal.returns-in-Some-eq45
+returns-in-Some-eq45 c = let a = c.args in let m = c.next_byte-start.result in let g = c.next_byte-start.ensures in let e : m.byte ≡ Some 45 = search rules in number_begun a.text.now a.at m.at g.skipped minus_begun c.after_minus.result tt (byte_inside a.text.now a.at m g 45 e) (ap first_byte (byte_is a.text.now a.at m g 45 e)) c.after_minus.ensures
 
-pub returns-then-byte-eq45 : goal.returns-then-byte-eq45
-returns-then-byte-eq45 c = let a = c.args in number_begun a.text.now a.at c.skip_spaces-start.result c.skip_spaces-start.ensures minus_begun c.after_minus.result tt (let i = c.skip_spaces-start.ensures.inside in let n = c.if-start-text.false in omega (arith, i, n)) (first_minus (get_or c.args.text.now c.skip_spaces-start.result 0) c.if-byte-eq45.true) c.after_minus.ensures
+pub returns-in-Some-eq48 : goal.returns-in-Some-eq48
+returns-in-Some-eq48 c = let a = c.args in let m = c.next_byte-start.result in let g = c.next_byte-start.ensures in let e : m.byte ≡ Some 48 = search rules in number_begun a.text.now a.at m.at g.skipped (value_begun (plain 0)) c.after_zero.result tt (byte_inside a.text.now a.at m g 48 e) (ap first_byte (byte_is a.text.now a.at m g 48 e)) c.after_zero.ensures
 
-pub returns-then-not-is_digit : goal.returns-then-not-is_digit
-returns-then-not-is_digit c = let a = c.args in number_off a.text.now a.at c.skip_spaces-start.result c.skip_spaces-start.ensures (let i = c.skip_spaces-start.ensures.inside in let n = c.if-start-text.false in omega (arith, i, n)) (first_off (get_or c.args.text.now c.skip_spaces-start.result 0) c.if-byte-eq45.false (sym c.is_digit.ensures ∙ c.if-not-is_digit.true))
+pub returns-in-Some-49-to-57 : goal.returns-in-Some-49-to-57
+returns-in-Some-49-to-57 c = let a = c.args in let m = c.next_byte-start.result in let g = c.next_byte-start.ensures in let b = c.in-Some-49-to-57.digit in let e = c.in-Some-49-to-57.is in let low : 49 ≤ b = search rules in let high : b ≤ 57 = search rules in let d = c.in-Some-49-to-57.digit-is in let n : NumberRead a.text.now (m.at + 1) (λ w. within w (value_begun (plain (b - 48)))) (m.at + 1) c.more_digits.result = search rules in number_begun a.text.now a.at m.at g.skipped (value_begun (plain (b - 48))) c.more_digits.result tt (byte_inside a.text.now a.at m g b e) (ap first_byte (byte_is a.text.now a.at m g b e) ∙ first_digit b (λ z. omega (arith, low, z)) (digit_there b (omega (arith, low)) high)) n
 
-pub returns-then-byte-eq48 : goal.returns-then-byte-eq48
-returns-then-byte-eq48 c = let a = c.args in number_begun a.text.now a.at c.skip_spaces-start.result c.skip_spaces-start.ensures (value_begun (plain 0)) c.after_zero.result tt (let i = c.skip_spaces-start.ensures.inside in let n = c.if-start-text.false in omega (arith, i, n)) (ap Rattle.grammar.specs.Numbers.first_byte c.if-byte-eq48.true) c.after_zero.ensures
+pub returns-in_default : goal.returns-in_default
+returns-in_default c = let a = c.args in let m = c.next_byte-start.result in let g = c.next_byte-start.ensures in let b = c.in_default.field-0 in let e = c.in_default.is in let low : b < 49 = search rules in let other : b ≡ 45 → ⊥ = search rules in let nought : b ≡ 48 → ⊥ = search rules in number_off a.text.now a.at m.at g.skipped (byte_inside a.text.now a.at m g b e) (ap first_byte (byte_is a.text.now a.at m g b e) ∙ first_off b other (below_digits b (omega (arith, low, nought))))
 
-pub overflow_sub-byte : goal.overflow_sub-byte
-overflow_sub-byte c = (digit_range (get_or c.args.text.now c.skip_spaces-start.result 0) (sym c.is_digit.ensures ∙ c.if-not-is_digit.false)).0
+pub returns-in_default-2 : goal.returns-in_default-2
+returns-in_default-2 c = let a = c.args in let m = c.next_byte-start.result in let g = c.next_byte-start.ensures in let b = c.in_default.field-0 in let e = c.in_default.is in let high : 57 < b = search rules in number_off a.text.now a.at m.at g.skipped (byte_inside a.text.now a.at m g b e) (ap first_byte (byte_is a.text.now a.at m g b e) ∙ first_off b (λ z. omega (arith, high, z)) (above_digits b high))
 
-pub overflow_cast-byte : goal.overflow_cast-byte
-overflow_cast-byte c = let d = (digit_range (get_or c.args.text.now c.skip_spaces-start.result 0) (sym c.is_digit.ensures ∙ c.if-not-is_digit.false)).1 in omega (arith, d)
-
-pub more_digits-requires : goal.more_digits-requires
-more_digits-requires c = let d = digit_range (get_or c.args.text.now c.skip_spaces-start.result 0) (sym c.is_digit.ensures ∙ c.if-not-is_digit.false) in let l = d.0 in let g = d.1 in let z = c.if-byte-eq48.false in (let i = c.skip_spaces-start.ensures.inside in let n = c.if-start-text.false in omega (arith, i, n), omega (arith, g), λ e. omega (arith, l, z))
-
-pub returns : goal.returns
-returns c = let a = c.args in number_begun a.text.now a.at c.skip_spaces-start.result c.skip_spaces-start.ensures (value_begun (plain (get_or c.args.text.now c.skip_spaces-start.result 0 - 48))) c.more_digits.result tt (let i = c.skip_spaces-start.ensures.inside in let n = c.if-start-text.false in omega (arith, i, n)) (first_digit (get_or c.args.text.now c.skip_spaces-start.result 0) c.if-byte-eq45.false (sym c.is_digit.ensures ∙ c.if-not-is_digit.false)) c.more_digits.ensures
+pub returns-in_default-3 : goal.returns-in_default-3
+returns-in_default-3 c = let a = c.args in let m = c.next_byte-start.result in let g = c.next_byte-start.ensures in number_early a.text.now a.at m.at g.skipped (no_byte a.text.now a.at m g c.in_default.is)

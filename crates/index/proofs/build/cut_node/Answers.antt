@@ -10,9 +10,6 @@ use Rattle.index.proofs.build.cut_node.Goals as goal
 pub axis_of-axis-requires : goal.axis_of-axis-requires
 axis_of-axis-requires c = rw c.rect_at.ensures c.requires.near_rect
 
-pub cut_part-reads-requires : goal.cut_part-reads-requires
-cut_part-reads-requires c = record { corners_near = c.requires.corners_near; ring_ends = c.requires.ring_ends; names = c.requires.names; part_inside = c.requires.part_inside }
-
 pub part_box-left-requires : goal.part_box-left-requires
 part_box-left-requires c =
     let f = first_at c.args.parts.now c.args.p in
@@ -25,11 +22,6 @@ pub part_box-right-requires : goal.part_box-right-requires
 part_box-right-requires c =
     let f = first_at c.args.parts.now c.args.p in
     let m = count_at c.args.parts.now c.args.p in record { n_in_bounds = c.requires.corners_near.reach; ring_ends = c.requires.ring_ends; names = names_shuffled c.args.n c.args.edges.now _ f m (f + m / 2) _ c.requires.names c.cut_part-reads.ensures.moved (omega arith) (omega arith) }
-
-pub overflow_add-next : goal.overflow_add-next
-overflow_add-next c =
-    let room = c.requires.p_lt_free in
-    omega (arith, c.well_formed)
 
 pub put_children-requires : goal.put_children-requires
 put_children-requires c =

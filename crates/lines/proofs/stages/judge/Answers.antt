@@ -1,58 +1,38 @@
--- `lines::stages::judge` meets its contract: the stage is what the lines so far come to.
-use mathlib.Core.Path.{sym, ap, subst, ◌∙◌}
-use Prim.Native.Nat.{◌+◌}
-use native.Mathlib.Omega.{arith}
-use Rattle.lines.specs.declared.stages.Stage.{Stage}
-use Rattle.lines.specs.Steps.{stage_after}
-use Rattle.lines.proofs.Judging.{Judging, judging_begun, line_countable, judging_onward, judged, starts}
+-- `lines::stages::judge` meets its contract: the size is that of the lines so far.
+use borrow.Author.Rules.{rules}
+use mathlib.Core.Path.{◌≡◌, sym, ap, subst, ◌∙◌}
+use Rattle.std.specs.Prelude.{Err}
+use Rattle.lines.specs.Plans.{meaning}
+use Rattle.lines.specs.Steps.{Judged, stage_after}
+use Rattle.lines.proofs.Judging.{judging_begun, judging_onward, judged_broken, judged_whole, judged_unended, judged_empty}
 use Rattle.lines.proofs.stages.judge.Goals as goal
 
-pub loop-end-init : goal.loop-end-init
-loop-end-init c = judging_begun c.args.text.now c.find-end.result c.find-end.ensures
+pub loop-row-init : goal.loop-row-init
+loop-row-init c = judging_begun c.args.text.now
 
-pub slice_bounds-read_record-count : goal.slice_bounds-read_record-count
-slice_bounds-read_record-count c =
-    let l = c.loop-end in
-    let s = starts c.args.text.now l.invariant.so_far l.line l.from l.end l.invariant.reached in
-    omega arith
+pub returns-in_err-after_line : goal.returns-in_err-after_line
+returns-in_err-after_line c =
+    let l = c.loop-row in
+    let e : c.from_residual.result ≡ Err c.in_err-after_line.field-0.0 = search rules in
+    let b = judged_broken c.args.text.now l.so_far l.line l.rest.now l.invariant c.in-Some.row.now c.in-Some.after.now c.in-Some.ensures c.after_line.result (c.after_line.ensures ∙ ap (stage_after l.line l.so_far) c.read_record.ensures) _ c.in_err-after_line.was in
+    subst (Judged (meaning c.args.text.now)) (sym e) b
 
-pub slice_bounds-read_record-start : goal.slice_bounds-read_record-start
-slice_bounds-read_record-start c =
-    let l = c.loop-end in
-    let s = starts c.args.text.now l.invariant.so_far l.line l.from l.end l.invariant.reached in
-    omega arith
+pub loop-row-preserved : goal.loop-row-preserved
+loop-row-preserved c =
+    let l = c.loop-row in
+    judging_onward c.args.text.now l.so_far l.line l.rest.now l.invariant c.in-Some.row.now c.in-Some.after.now c.in-Some.ensures c.after_line.result (c.after_line.ensures ∙ ap (stage_after l.line l.so_far) c.read_record.ensures) _ c.in_ok-after_line.was
 
-pub after_line-stage-requires : goal.after_line-stage-requires
-after_line-stage-requires c =
-    let l = c.loop-end in
-    line_countable c.args.text.now l.stage l.line l.from l.end l.invariant c.requires
+pub returns-in-Some-so_far : goal.returns-in-Some-so_far
+returns-in-Some-so_far c =
+    let l = c.loop-row in
+    judged_whole c.args.text.now l.so_far l.line l.rest.now l.invariant c.in_default.ensures _ c.in-Some-so_far.is (search rules)
 
-pub overflow_add-line : goal.overflow_add-line
-overflow_add-line c =
-    let l = c.loop-end in
-    let n = l.invariant.reached.numbered in
-    let f = l.invariant.reached.few in
-    let p = c.requires in
-    omega arith
+pub returns-in_default-so_far : goal.returns-in_default-so_far
+returns-in_default-so_far c =
+    let l = c.loop-row in
+    judged_unended c.args.text.now l.so_far l.line l.rest.now l.invariant c.in_default.ensures (search rules)
 
-pub overflow_add-from : goal.overflow_add-from
-overflow_add-from c = omega arith
-
-pub loop-end-smaller : goal.loop-end-smaller
-loop-end-smaller c =
-    let l = c.loop-end in
-    let s = starts c.args.text.now l.invariant.so_far l.line l.from l.end l.invariant.reached in
-    omega arith
-
-pub loop-end-preserved : goal.loop-end-preserved
-loop-end-preserved c =
-    let a = c.args in
-    let l = c.loop-end in
-    subst (λ (stage : Stage). Judging a.text.now stage (l.line + 1) (l.end + 1) c.find-end-in-loop-end.result) (sym (c.after_line-stage.ensures ∙ ap (stage_after l.line l.stage) c.read_record-row.ensures))
-    (judging_onward a.text.now l.stage l.line l.from l.end l.invariant (omega (arith, c.loop-end-test.true)) c.find-end-in-loop-end.result c.find-end-in-loop-end.ensures)
-
-pub returns : goal.returns
-returns c =
-    let a = c.args in
-    let l = c.loop-end in
-    judged a.text.now l.stage l.line l.from l.end l.invariant c.loop-end-test.false c.at_end.result c.at_end.ensures
+pub returns-in_default-so_far-2 : goal.returns-in_default-so_far-2
+returns-in_default-so_far-2 c =
+    let l = c.loop-row in
+    judged_empty c.args.text.now l.so_far l.line l.rest.now l.invariant c.in_default.ensures c.in_default-so_far.is

@@ -1,13 +1,10 @@
 -- `outlines::rows::end_of_all` meets its contract. The invariant: the parts from k on end where all of them do, and fit if all of them do.
 use mathlib.Core.Path.{◌≡◌}
-use Prim.Native.Nat.{◌-◌, ◌≤◌}
+use Prim.Native.Nat.{◌≤◌}
 use lib.ListN.{length, drop}
 use Rattle.outlines.specs.Rows.{end_by, Within}
 use Rattle.outlines.proofs.rows.end_of_all.Given as goal
 
-abbrev pub invariant-loop-k : goal.invariant-loop-k
-invariant-loop-k l =
-    (l.k ≤ length l.table) × (l.at ≤ l.limit) × (end_by l.form l.at (drop l.k l.table) ≡ end_by l.form l.start l.table) × (Within l.form l.limit l.start l.table → Within l.form l.limit l.at (drop l.k l.table))
-
-abbrev pub decreases-loop-k : goal.decreases-loop-k
-decreases-loop-k l = length l.table - l.k
+abbrev pub invariant-loop-entry : goal.invariant-loop-entry
+invariant-loop-entry l =
+    (l.entry-index ≤ length l.table) × (l.at ≤ l.limit) × (end_by l.form l.at (drop l.entry-index l.table) ≡ end_by l.form l.start l.table) × (Within l.form l.limit l.start l.table → Within l.form l.limit l.at (drop l.entry-index l.table))

@@ -1,6 +1,4 @@
 -- `outlines::shapes::holes_reply` meets its contract. The invariants: no hole so far decided; the edges counted so far and those still
-use Prim.Native.Nat.{◌-◌}
-use lib.ListN.{length}
 use Rattle.rings.proofs.Rounds.{Counted}
 use Rattle.outlines.proofs.Holes.{Passed}
 use Rattle.outlines.proofs.shapes.holes_reply.Given as goal
@@ -9,11 +7,5 @@ use Rattle.outlines.proofs.shapes.holes_reply.Given as goal
 abbrev pub invariant-loop-i : goal.invariant-loop-i
 invariant-loop-i l = Counted l.coordinates l.p l.at l.end l.first l.a l.winding l.i
 
-abbrev pub decreases-loop-i : goal.decreases-loop-i
-decreases-loop-i l = l.end - l.i
-
 abbrev pub invariant-holes : goal.invariant-holes
-invariant-holes l = Passed l.form l.coordinates l.rings l.start l.p l.place l.at l.k
-
-abbrev pub decreases-holes : goal.decreases-holes
-decreases-holes l = length l.rings - l.k
+invariant-holes l = Passed l.form l.coordinates l.rings l.start l.p l.place l.at l.entry-index

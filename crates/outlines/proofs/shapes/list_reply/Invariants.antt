@@ -1,6 +1,6 @@
 -- `outlines::shapes::list_reply` meets its contract. The invariant: the strongest reply so far and the polygons still to come, with the
 use mathlib.Core.List.{List}
-use Prim.Native.Nat.{ℕ, ◌-◌, ◌/◌, ◌≤◌}
+use Prim.Native.Nat.{ℕ, ◌/◌, ◌≤◌}
 use lib.IntN.{ℤ}
 use lib.ListN.{length}
 use Rattle.geom.specs.declared.Point.{Point}
@@ -19,11 +19,8 @@ abbrev pub Best : Form → List ℤ → List ℕ → List ℕ → Point → Loca
 Best form coordinates rings polygons p best later =
     Within form (length coordinates / 2) 0 rings → Weighed (parts_from form (parts_from form (corners_of coordinates) 0 rings) 0 polygons) p best later
 
-abbrev pub invariant-loop-k : goal.invariant-loop-k
-invariant-loop-k l =
-    Reached l.form (length l.rings) 0 (parts_from l.form (corners_of l.coordinates) 0 l.rings) l.polygons l.first l.k (Best l.form l.coordinates l.rings l.polygons l.p l.best)
+abbrev pub invariant-loop-entry : goal.invariant-loop-entry
+invariant-loop-entry l =
+    Reached l.form (length l.rings) 0 (parts_from l.form (corners_of l.coordinates) 0 l.rings) l.polygons l.first l.entry-index (Best l.form l.coordinates l.rings l.polygons l.p l.best)
     × (l.start ≤ length l.coordinates / 2)
     × ((w : Within l.form (length l.coordinates / 2) 0 l.rings) → Aligned l.form (length l.coordinates / 2) (corners_of l.coordinates) l.rings w l.first l.start)
-
-abbrev pub decreases-loop-k : goal.decreases-loop-k
-decreases-loop-k l = length l.polygons - l.k

@@ -1,32 +1,27 @@
 -- `prepared::first::first_not_outside` meets its contract. The invariant: every point so far is outside.
+use Rattle.std.proofs.lemmas.Result.{err_from_is_err_and}
 use mathlib.Core.Path.{sym, ◌∙◌}
 use native.Mathlib.Omega.{arith}
-use Rattle.prepared.proofs.Listing.{accepted_few, going_none, going_more, says_none, says_at, says_unsound, says_judged}
+use Rattle.prepared.proofs.Listing.{going_none, going_more, says_none, says_at, says_unsound, says_judged}
 use Rattle.prepared.proofs.first.first_not_outside.Goals as goal
 
-pub returns-in-Refused : goal.returns-in-Refused
-returns-in-Refused c = let a = c.args in says_judged a.state a.corners.now a.rings.now a.polygons.now a.boxes.now a.parts.now a.edges.now a.points.now c.in-Refused.refusal (sym c.judge_points.ensures.verdict ∙ c.in-Refused.is)
+pub returns-in_err-judge_points : goal.returns-in_err-judge_points
+returns-in_err-judge_points c = let a = c.args in let p = err_from_is_err_and c.from_residual.result c.from_residual.ensures.1 in rw (p.1, p.2) (says_judged a.state a.corners.now a.rings.now a.polygons.now a.boxes.now a.parts.now a.edges.now a.points.now _ (sym c.judge_points.ensures.verdict ∙ c.in_err-judge_points.was))
 
 pub loop-k-init : goal.loop-k-init
-loop-k-init c = let a = c.args in going_none a.state a.corners.now a.rings.now a.polygons.now a.boxes.now a.parts.now a.edges.now a.points.now (sym c.judge_points.ensures.verdict ∙ c.in_default.is)
+loop-k-init c = let a = c.args in going_none a.state a.corners.now a.rings.now a.polygons.now a.boxes.now a.parts.now a.edges.now a.points.now (sym c.judge_points.ensures.verdict ∙ c.in_ok-judge_points.was)
 
-pub corner_at-p-requires : goal.corner_at-p-requires
-corner_at-p-requires c = let h = c.loop-k-test.true in omega arith
+pub corner_at-requires : goal.corner_at-requires
+corner_at-requires c = let h = c.loop-k-test.true in omega arith
 
-pub returns-in_default-reply : goal.returns-in_default-reply
-returns-in_default-reply c = let a = c.args in says_unsound a.state a.corners.now a.rings.now a.polygons.now a.boxes.now a.parts.now a.edges.now a.points.now c.loop-k.k c.loop-k.invariant c.loop-k-test.true c.corner_at-p.result c.corner_at-p.ensures _ (rw c.in_default-reply.is at c.locate-reply.ensures)
+pub returns-in_err-location : goal.returns-in_err-location
+returns-in_err-location c = let a = c.args in let p = err_from_is_err_and c.from_residual-in_err-location.result c.from_residual-in_err-location.ensures.1 in rw (p.1, p.2) (says_unsound a.state a.corners.now a.rings.now a.polygons.now a.boxes.now a.parts.now a.edges.now a.points.now c.loop-k.k c.loop-k.invariant c.loop-k-test.true c.corner_at.result c.corner_at.ensures _ (rw c.in_err-location.was at c.locate.ensures))
 
 pub returns-then-not-is_outside : goal.returns-then-not-is_outside
-returns-then-not-is_outside c = let a = c.args in says_at a.state a.corners.now a.rings.now a.polygons.now a.boxes.now a.parts.now a.edges.now a.points.now c.loop-k.k c.loop-k.invariant c.loop-k-test.true c.corner_at-p.result c.corner_at-p.ensures c.in-At.location (rw c.in-At.is at c.locate-reply.ensures) (sym c.is_outside.ensures ∙ c.if-not-is_outside.true)
-
-pub overflow_add-k : goal.overflow_add-k
-overflow_add-k c = let few = accepted_few c.args.points.now c.loop-k.invariant.accepted in let h = c.loop-k-test.true in omega arith
-
-pub loop-k-smaller : goal.loop-k-smaller
-loop-k-smaller c = omega arith
+returns-then-not-is_outside c = let a = c.args in says_at a.state a.corners.now a.rings.now a.polygons.now a.boxes.now a.parts.now a.edges.now a.points.now c.loop-k.k c.loop-k.invariant c.loop-k-test.true c.corner_at.result c.corner_at.ensures c.in_ok-location.location (rw c.in_ok-location.was at c.locate.ensures) (sym c.is_outside.ensures ∙ c.if-not-is_outside.true)
 
 pub loop-k-preserved : goal.loop-k-preserved
-loop-k-preserved c = let a = c.args in going_more a.state a.corners.now a.rings.now a.polygons.now a.boxes.now a.parts.now a.edges.now a.points.now c.loop-k.k c.loop-k.invariant c.loop-k-test.true c.corner_at-p.result c.corner_at-p.ensures c.in-At.location (rw c.in-At.is at c.locate-reply.ensures) (sym c.is_outside.ensures ∙ c.if-not-is_outside.false)
+loop-k-preserved c = let a = c.args in going_more a.state a.corners.now a.rings.now a.polygons.now a.boxes.now a.parts.now a.edges.now a.points.now c.loop-k.k c.loop-k.invariant c.loop-k-test.true c.corner_at.result c.corner_at.ensures c.in_ok-location.location (rw c.in_ok-location.was at c.locate.ensures) (sym c.is_outside.ensures ∙ c.if-not-is_outside.false)
 
 pub returns : goal.returns
 returns c = let a = c.args in says_none a.state a.corners.now a.rings.now a.polygons.now a.boxes.now a.parts.now a.edges.now a.points.now c.loop-k.k c.loop-k.invariant c.loop-k-test.false

@@ -1,11 +1,6 @@
 -- `prepared::first::first_not_outside` meets its contract. The invariant: every point so far is outside.
-use Prim.Native.Nat.{◌-◌, ◌/◌}
-use lib.ListN.{length}
 use Rattle.prepared.proofs.Listing.{Going}
 use Rattle.prepared.proofs.first.first_not_outside.Given as goal
 
 abbrev pub invariant-loop-k : goal.invariant-loop-k
 invariant-loop-k l = Going l.state l.corners l.rings l.polygons l.boxes l.parts l.edges l.points l.k
-
-abbrev pub decreases-loop-k : goal.decreases-loop-k
-decreases-loop-k l = length l.points / 2 - l.k

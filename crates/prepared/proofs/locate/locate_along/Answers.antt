@@ -1,19 +1,34 @@
 -- `prepared::locate::locate_along` meets its contract: settled before a table is read, or by the walks.
-use mathlib.Core.Path.{sym, ◌∙◌}
-use Rattle.geom.specs.Range.{in_range}
-use Rattle.rules.specs.Plans.{kind_reply, plan_reply}
+use Rattle.std.proofs.Common.{◌≡◌, true, sym, ◌∙◌, ap, subst}
+use Rattle.rules.specs.declared.Spot.{Spot}
+use Rattle.rules.specs.declared.Spot.TheVariants.{OnGrid, Doubled}
+use Rattle.rules.specs.Spots.{spot_in_range, spot_reply}
 use Rattle.rules.specs.Tables.{plan_of}
-use Rattle.prepared.proofs.Lookings.{marked, beyond, walked, in_range_lem as near_reply}
+use Rattle.prepared.specs.Calls.{Looked}
+use Rattle.prepared.proofs.Lookings.{marked, beyond, walked, in_range_lem}
 use Rattle.prepared.proofs.locate.locate_along.Goals as goal
+use Rattle.prepared.proofs.locate.locate_along.Goals.{Else-not-in_range}
 
 pub returns-then-state : goal.returns-then-state
-returns-then-state c = let a = c.args in marked a.state a.corners.now a.rings.now a.polygons.now a.boxes.now a.parts.now a.edges.now (in_range a.p) (plan_reply (plan_of a.state a.corners.now a.rings.now a.polygons.now) a.p) c.if-state.true
+returns-then-state c = let a = c.args in marked a.state a.corners.now a.rings.now a.polygons.now a.boxes.now a.parts.now a.edges.now (spot_in_range a.spot) (spot_reply (plan_of a.state a.corners.now a.rings.now a.polygons.now) a.spot) c.if-state.true
 
 pub returns-then-not-in_range : goal.returns-then-not-in_range
-returns-then-not-in_range c = let a = c.args in beyond a.state a.corners.now a.rings.now a.polygons.now a.boxes.now a.parts.now a.edges.now (in_range a.p) (plan_reply (plan_of a.state a.corners.now a.rings.now a.polygons.now) a.p) (sym c.in_range.ensures ∙ c.if-not-in_range.true)
+returns-then-not-in_range c = let a = c.args in beyond a.state a.corners.now a.rings.now a.polygons.now a.boxes.now a.parts.now a.edges.now (spot_in_range a.spot) (spot_reply (plan_of a.state a.corners.now a.rings.now a.polygons.now) a.spot) (sym c.in_range.ensures ∙ c.if-not-in_range.true)
 
-pub returns : goal.returns
-returns c =
+-- the spot is in range
+ranged : (c : Else-not-in_range) → spot_in_range c.args.spot ≡ true
+ranged c = sym c.in_range.ensures ∙ c.if-not-in_range.false
+
+pub returns-in-OnGrid : goal.returns-in-OnGrid
+returns-in-OnGrid c =
     let a = c.args in
-    let near = sym c.in_range.ensures ∙ c.if-not-in_range.false in
-    walked a.state a.corners.now a.rings.now a.polygons.now a.boxes.now a.parts.now a.edges.now (in_range a.p) (plan_reply (plan_of a.state a.corners.now a.rings.now a.polygons.now) a.p) c.if-state.false near (kind_reply (plan_of a.state a.corners.now a.rings.now a.polygons.now).kind (plan_of a.state a.corners.now a.rings.now a.polygons.now) a.p) (near_reply a.state a.corners.now a.rings.now a.polygons.now a.boxes.now a.parts.now a.edges.now a.p near) c.region_along.result c.region_along.ensures
+    let near = ap spot_in_range (sym c.in-OnGrid.is) ∙ ranged (goal.at.returns-in-OnGrid c).Else-not-in_range in
+    subst (λ (spot : Spot). Looked a.state a.corners.now a.rings.now a.polygons.now a.boxes.now a.parts.now a.edges.now (spot_in_range spot) (spot_reply (plan_of a.state a.corners.now a.rings.now a.polygons.now) spot) c.region_along.result) (sym c.in-OnGrid.is)
+    (walked a.state a.corners.now a.rings.now a.polygons.now a.boxes.now a.parts.now a.edges.now _ _ c.if-state.false near _ (in_range_lem a.state a.corners.now a.rings.now a.polygons.now a.boxes.now a.parts.now a.edges.now (OnGrid c.in-OnGrid.p) near) c.region_along.result c.region_along.ensures)
+
+pub returns-in-Doubled : goal.returns-in-Doubled
+returns-in-Doubled c =
+    let a = c.args in
+    let near = ap spot_in_range (sym c.in-Doubled.is) ∙ ranged (goal.at.returns-in-Doubled c).Else-not-in_range in
+    subst (λ (spot : Spot). Looked a.state a.corners.now a.rings.now a.polygons.now a.boxes.now a.parts.now a.edges.now (spot_in_range spot) (spot_reply (plan_of a.state a.corners.now a.rings.now a.polygons.now) spot) c.half_along.result) (sym c.in-Doubled.is)
+    (walked a.state a.corners.now a.rings.now a.polygons.now a.boxes.now a.parts.now a.edges.now _ _ c.if-state.false near _ (in_range_lem a.state a.corners.now a.rings.now a.polygons.now a.boxes.now a.parts.now a.edges.now (Doubled c.in-Doubled.p) near) c.half_along.result c.half_along.ensures)

@@ -1,54 +1,53 @@
 -- `query::plan::locate_by_rings` meets its contract: settled early, a table too short, or the reply ring by ring.
+use Rattle.std.specs.Prelude.{Ok}
 use mathlib.Core.Path.{◌≡◌, sym, ◌∙◌, ap, subst}
 use mathlib.Core.Bool.{true}
 use Prim.Native.Nat.{◌*◌}
 use native.Mathlib.Omega.{arith}
 use lib.ListN.{take, length-take}
-use Rattle.geom.specs.Range.{in_range}
-use Rattle.rules.specs.declared.Reply.TheVariants.{At}
-use Rattle.rules.specs.Plans.{plan_reply}
+use Rattle.rules.specs.Spots.{spot_in_range, spot_reply}
 use Rattle.rules.specs.Tables.{plan_of, polygons_in}
 use Rattle.outlines.specs.declared.rows.Form.TheVariants.{Ends}
-use Rattle.query.specs.Calls.{PlanShown}
-use Rattle.query.proofs.Fits.{sound_fits, located}
-use Rattle.query.proofs.LookUps.{far, marked, beyond, unsound, done, short_is, never_short, Long, long}
+use Rattle.query.specs.Calls.{SpotShown}
+use Rattle.query.proofs.Fits.{sound_fits, spot_located}
+use Rattle.query.proofs.LookUps.{spot_far, marked, beyond, unsound, done, short_is, never_short, Long, long}
 use Rattle.query.proofs.plan.locate_by_rings.Goals as goal
 use Rattle.query.proofs.plan.locate_by_rings.Goals.{Else-corners-n, Else-not-in_range}
 
 pub returns-then-state : goal.returns-then-state
-returns-then-state c = let a = c.args in marked a.state a.corners.now a.rings.now a.polygons.now (in_range a.p) (plan_reply (plan_of a.state a.corners.now a.rings.now a.polygons.now) a.p) c.if-state.true
+returns-then-state c = let a = c.args in marked a.state a.corners.now a.rings.now a.polygons.now (spot_in_range a.spot) (spot_reply (plan_of a.state a.corners.now a.rings.now a.polygons.now) a.spot) c.if-state.true
 
 pub returns-then-not-in_range : goal.returns-then-not-in_range
-returns-then-not-in_range c = let a = c.args in beyond a.state a.corners.now a.rings.now a.polygons.now (in_range a.p) (plan_reply (plan_of a.state a.corners.now a.rings.now a.polygons.now) a.p) (sym c.in_range.ensures ∙ c.if-not-in_range.true) (far (plan_of a.state a.corners.now a.rings.now a.polygons.now) a.p (sym c.in_range.ensures ∙ c.if-not-in_range.true))
+returns-then-not-in_range c = let a = c.args in beyond a.state a.corners.now a.rings.now a.polygons.now (spot_in_range a.spot) (spot_reply (plan_of a.state a.corners.now a.rings.now a.polygons.now) a.spot) (sym c.in_range.ensures ∙ c.if-not-in_range.true) (spot_far (plan_of a.state a.corners.now a.rings.now a.polygons.now) a.spot (sym c.in_range.ensures ∙ c.if-not-in_range.true))
 
-ranged : (c : Else-not-in_range) → in_range c.args.p ≡ true
+ranged : (c : Else-not-in_range) → spot_in_range c.args.spot ≡ true
 ranged c = sym c.in_range.ensures ∙ c.if-not-in_range.false
 
 pub returns-then-corners-n : goal.returns-then-corners-n
 returns-then-corners-n c = let a = c.args in
-    unsound a.state a.corners.now a.rings.now a.polygons.now (in_range a.p) (plan_reply (plan_of a.state a.corners.now a.rings.now a.polygons.now) a.p) c.if-state.false (ranged (goal.at.returns-then-corners-n c).Else-not-in_range) (never_short a.state a.corners.now a.rings.now a.polygons.now c.polygon_count-q.result c.polygon_count-q.ensures c.if-corners-n.true)
+    unsound a.state a.corners.now a.rings.now a.polygons.now (spot_in_range a.spot) (spot_reply (plan_of a.state a.corners.now a.rings.now a.polygons.now) a.spot) c.if-state.false (ranged (goal.at.returns-then-corners-n c).Else-not-in_range) (never_short a.state a.corners.now a.rings.now a.polygons.now c.polygons_in-q.result c.polygons_in-q.ensures c.if-corners-n.true)
 
 -- every table reaches as far as the state says
-reach : (c : Else-corners-n) → let a = c.args in Long a.state a.corners.now a.rings.now a.polygons.now c.polygon_count-q.result
-reach c = let a = c.args in long a.state a.corners.now a.rings.now a.polygons.now c.polygon_count-q.result c.if-corners-n.false
+reach : (c : Else-corners-n) → let a = c.args in Long a.state a.corners.now a.rings.now a.polygons.now c.polygons_in-q.result
+reach c = let a = c.args in long a.state a.corners.now a.rings.now a.polygons.now c.polygons_in-q.result c.if-corners-n.false
 
 pub overflow_mul-n : goal.overflow_mul-n
 overflow_mul-n c = let h = reach c in omega (arith, h.corner_table)
 
-pub slice_bounds-kind_reply-end : goal.slice_bounds-kind_reply-end
-slice_bounds-kind_reply-end c = let h = reach (goal.at.slice_bounds-kind_reply-end c).Else-corners-n in simp length-take (omega (arith, h.corner_table))
+pub slice_bounds-spot_reply-end : goal.slice_bounds-spot_reply-end
+slice_bounds-spot_reply-end c = let h = reach (goal.at.slice_bounds-spot_reply-end c).Else-corners-n in simp length-take (omega (arith, h.corner_table))
 
-pub slice_bounds-kind_reply-end-2 : goal.slice_bounds-kind_reply-end-2
-slice_bounds-kind_reply-end-2 c = let h = reach (goal.at.slice_bounds-kind_reply-end-2 c).Else-corners-n in simp length-take (omega (arith, h.ring_table))
+pub slice_bounds-spot_reply-end-2 : goal.slice_bounds-spot_reply-end-2
+slice_bounds-spot_reply-end-2 c = let h = reach (goal.at.slice_bounds-spot_reply-end-2 c).Else-corners-n in simp length-take (omega (arith, h.ring_table))
 
-pub slice_bounds-kind_reply-end-3 : goal.slice_bounds-kind_reply-end-3
-slice_bounds-kind_reply-end-3 c = let h = reach (goal.at.slice_bounds-kind_reply-end-3 c).Else-corners-n in simp length-take (omega (arith, h.polygon_table))
+pub slice_bounds-spot_reply-end-3 : goal.slice_bounds-spot_reply-end-3
+slice_bounds-spot_reply-end-3 c = let h = reach (goal.at.slice_bounds-spot_reply-end-3 c).Else-corners-n in simp length-take (omega (arith, h.polygon_table))
 
 pub returns : goal.returns
 unfolding plan_of
 returns c =
     let a = c.args in
-    let shown : PlanShown Ends a.state.kind (take (2 * a.state.corners) a.corners.now) (take a.state.rings a.rings.now) (take (polygons_in a.state.kind a.state.polygons) a.polygons.now) a.p c.kind_reply.result
-    = subst (λ q. PlanShown Ends a.state.kind (take (2 * a.state.corners) a.corners.now) (take a.state.rings a.rings.now) (take q a.polygons.now) a.p c.kind_reply.result) c.polygon_count-q.ensures c.kind_reply.ensures in
-    done a.state a.corners.now a.rings.now a.polygons.now (in_range a.p) (plan_reply (plan_of a.state a.corners.now a.rings.now a.polygons.now) a.p) c.if-state.false (ranged (goal.at.returns c).Else-not-in_range) (sym (short_is a.state a.corners.now a.rings.now a.polygons.now c.polygon_count-q.result c.polygon_count-q.ensures) ∙ c.if-corners-n.false) c.kind_reply.result shown.placed
-    (λ s. shown.exact (sound_fits a.state a.corners.now a.rings.now a.polygons.now s) ∙ ap At (sym (located (plan_of a.state a.corners.now a.rings.now a.polygons.now) a.p true true s.near (ranged (goal.at.returns c).Else-not-in_range))))
+    let shown : SpotShown Ends a.state.kind (take (2 * a.state.corners) a.corners.now) (take a.state.rings a.rings.now) (take (polygons_in a.state.kind a.state.polygons) a.polygons.now) a.spot c.spot_reply.result
+    = subst (λ q. SpotShown Ends a.state.kind (take (2 * a.state.corners) a.corners.now) (take a.state.rings a.rings.now) (take q a.polygons.now) a.spot c.spot_reply.result) c.polygons_in-q.ensures c.spot_reply.ensures in
+    done a.state a.corners.now a.rings.now a.polygons.now (spot_in_range a.spot) (spot_reply (plan_of a.state a.corners.now a.rings.now a.polygons.now) a.spot) c.if-state.false (ranged (goal.at.returns c).Else-not-in_range) (sym (short_is a.state a.corners.now a.rings.now a.polygons.now c.polygons_in-q.result c.polygons_in-q.ensures) ∙ c.if-corners-n.false) c.spot_reply.result shown.placed
+    (λ s. shown.exact (sound_fits a.state a.corners.now a.rings.now a.polygons.now s) s.near ∙ ap Ok (sym (spot_located (plan_of a.state a.corners.now a.rings.now a.polygons.now) a.spot true true s.near (ranged (goal.at.returns c).Else-not-in_range))))

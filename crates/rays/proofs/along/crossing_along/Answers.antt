@@ -17,23 +17,15 @@ returns-then-no_higher-2 c = let s = c.args in
     found_along s.ray s.a s.b s.p true true false (sign_of (orientation s.a s.b s.p))
     (sym c.no_higher.ensures ∙ c.if-no_higher.true) (sym c.no_higher-then-no_higher.ensures ∙ c.if-no_higher-2.true) (sym c.on_segment.ensures ∙ c.if-on_segment.false) refl
 
-pub passing_turn-requires : goal.passing_turn-requires
-passing_turn-requires c =
-    (sym c.no_higher.ensures ∙ c.if-no_higher.true, sym c.no_higher-then-no_higher.ensures ∙ c.if-no_higher-2.false)
-
 pub returns-then-no_higher : goal.returns-then-no_higher
 returns-then-no_higher c = let s = c.args in
-    c.rising.ensures ∙ ap upward_of c.passing_turn.ensures
+    c.upward.ensures ∙ ap upward_of c.passing_turn.ensures
     ∙ found_along s.ray s.a s.b s.p true false (on_segment s.a s.b s.p) (sign_of (orientation s.a s.b s.p))
     (sym c.no_higher.ensures ∙ c.if-no_higher.true) (sym c.no_higher-then-no_higher.ensures ∙ c.if-no_higher-2.false) refl refl
 
-pub passing_turn-requires-then-no_higher-3 : goal.passing_turn-requires-then-no_higher-3
-passing_turn-requires-then-no_higher-3 c =
-    (sym c.no_higher.ensures ∙ c.if-no_higher.false, sym c.no_higher-2.ensures ∙ c.if-no_higher-3.true)
-
 pub returns-then-no_higher-3 : goal.returns-then-no_higher-3
 returns-then-no_higher-3 c = let s = c.args in
-    c.falling.ensures ∙ ap downward_of c.passing_turn-then-no_higher-3.ensures
+    c.downward.ensures ∙ ap downward_of c.passing_turn-then-no_higher-3.ensures
     ∙ found_along s.ray s.a s.b s.p false true (on_segment s.a s.b s.p) (sign_of (orientation s.a s.b s.p))
     (sym c.no_higher.ensures ∙ c.if-no_higher.false) (sym c.no_higher-2.ensures ∙ c.if-no_higher-3.true) refl refl
 

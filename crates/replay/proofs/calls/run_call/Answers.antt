@@ -9,13 +9,13 @@ abbrev given : (c : Start) → Prepared
 given c = let a = c.args in prepared_of a.state a.corners.now a.rings.now a.polygons.now a.boxes.now a.parts.now a.edges.now a.undo.now
 
 pub returns-in-Move : goal.returns-in-Move
-returns-in-Move c = rw c.in-Move.is (c.move_corner.ensures c.args.polygons.now)
+returns-in-Move c = rw (c.in-Move.is, c.corrected.ensures) (c.move_corner.ensures c.args.polygons.now)
 
 pub returns-in-Undo : goal.returns-in-Undo
-returns-in-Undo c = rw c.in-Undo.is (c.undo.ensures c.args.polygons.now)
+returns-in-Undo c = rw (c.in-Undo.is, c.corrected-in-Undo.ensures) (c.undo.ensures c.args.polygons.now)
 
 pub returns-in-Locate : goal.returns-in-Locate
 returns-in-Locate c = rw (c.in-Locate.is, c.looked_up.ensures) (locate_is_step (given (goal.at.returns-in-Locate c).Start) _ c.locate.result c.locate.ensures)
 
 pub returns-in-LocateDoubled : goal.returns-in-LocateDoubled
-returns-in-LocateDoubled c = rw (c.in-LocateDoubled.is, c.looked_up-in-LocateDoubled.ensures) (locate_doubled_is_step (given (goal.at.returns-in-LocateDoubled c).Start) _ c.locate_doubled.result c.locate_doubled.ensures)
+returns-in-LocateDoubled c = rw (c.in-LocateDoubled.is, c.looked_up-in-LocateDoubled.ensures) (locate_doubled_is_step (given (goal.at.returns-in-LocateDoubled c).Start) _ c.locate-in-LocateDoubled.result c.locate-in-LocateDoubled.ensures)

@@ -16,17 +16,8 @@ use Rattle.rings.proofs.ring.ring_reply.Goals.{After-is_on}
 pub returns-then-first-end : goal.returns-then-first-end
 returns-then-first-end c = empty (part (corners_of c.args.coordinates.now) c.args.first c.args.end) c.args.p (ap (λ e. part (corners_of c.args.coordinates.now) c.args.first e) (sym c.if-first-end.true) ∙ part_none (corners_of c.args.coordinates.now) c.args.first)
 
-pub corner_at-start-requires : goal.corner_at-start-requires
-corner_at-start-requires c = omega arith
-
-pub overflow_add-i : goal.overflow_add-i
-overflow_add-i c = omega arith
-
 pub loop-i-init : goal.loop-i-init
 loop-i-init c = let a = c.args in opened a.coordinates.now a.p a.first a.end (omega arith) c.corner_at-start.result (omega arith) c.corner_at-start.ensures
-
-pub corner_at-b-requires : goal.corner_at-b-requires
-corner_at-b-requires c = omega arith
 
 -- what `is_on` said of the edge
 told : (c : After-is_on) → c.is_on.result ≡ is_on (crossing_of c.loop-i.a c.corner_at-b.result c.args.p)
@@ -38,24 +29,12 @@ returns-then-is_on c =
     let l = c.loop-i in
     sym (touched a.coordinates.now a.p a.first a.end (omega arith) c.corner_at-start.result l.a (to_z w64 l.winding-bits) l.i l.invariant c.corner_at-b.result (omega arith) c.corner_at-b.ensures (sym (told (goal.at.returns-then-is_on c).After-is_on) ∙ c.if-is_on.true))
 
-pub wound-winding-requires : goal.wound-winding-requires
-wound-winding-requires c = omega arith
-
-pub overflow_add-i-in-loop-i : goal.overflow_add-i-in-loop-i
-overflow_add-i-in-loop-i c = omega arith
-
-pub loop-i-smaller : goal.loop-i-smaller
-loop-i-smaller c = omega arith
-
 pub loop-i-preserved : goal.loop-i-preserved
 loop-i-preserved c =
     let a = c.args in
     let l = c.loop-i in
     counted a.coordinates.now a.p a.first a.end (omega arith) c.corner_at-start.result l.a (to_z w64 l.winding-bits) l.i l.invariant c.corner_at-b.result (omega arith) c.corner_at-b.ensures (sym (told (goal.at.loop-i-preserved c).After-is_on) ∙ c.if-is_on.false) (rd c.wound-winding.result)
     (rd_is c.wound-winding.result (record { sfits = c.wound-winding.type_inv }) ∙ c.wound-winding.ensures ∙ ap (λ k. to_z w64 l.winding-bits +ℤ weight_of k) c.crossing_of-c.ensures)
-
-pub closed-requires : goal.closed-requires
-closed-requires c = omega arith
 
 pub returns : goal.returns
 returns c =

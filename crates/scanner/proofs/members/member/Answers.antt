@@ -1,49 +1,23 @@
 -- `scanner::members::member` meets its contract.
-use Prim.Native.Nat.{◌+◌}
-use native.Mathlib.Omega.{arith}
-use Rattle.grammar.proofs.Steps.{byte_inside}
-use Rattle.scanner.proofs.RingScans.{fewer}
+use borrow.Author.Rules.{rules}
+use mathlib.Core.Path.{◌≡◌, sym, subst}
+use Rattle.std.specs.Prelude.{Some, Err}
+use Rattle.grammar.proofs.Steps.{other_byte, none_byte}
+use Rattle.scanner.specs.Scanned.{MemberScanned}
 use Rattle.scanner.proofs.MemberScans.{member_off, member_opened, empty_off, empty_there}
 use Rattle.scanner.proofs.members.member.Goals as goal
 
-pub overflow_add-first : goal.overflow_add-first
-overflow_add-first c = let h = (byte_inside c.args.text.now c.args.at c.next_byte-first.result c.next_byte-first.ensures 39 c.if-first-eq40.true) in let l = c.requires.0 in omega (arith, h, l)
+pub returns-in-Some-eq40 : goal.returns-in-Some-eq40
+returns-in-Some-eq40 c = let m = c.next_byte-first.result in let k = c.next_byte-first.ensures in let e : m.byte ≡ Some 40 = search rules in member_opened c.args.text.now c.args.at m k c.args.extent c.args.corners.now _ c.args.lengths.now _ c.args.counts.now _ c.polygon.result e c.polygon.ensures
 
-pub polygon-requires : goal.polygon-requires
-polygon-requires c = let h = (byte_inside c.args.text.now c.args.at c.next_byte-first.result c.next_byte-first.ensures 39 c.if-first-eq40.true) in let o = c.next_byte-first.ensures.skipped.on in (c.requires.0, omega (arith, h), fewer c.args.extent c.args.at (c.next_byte-first.result.at + 1) (omega (arith, o)) c.requires.2)
+pub returns-in_err-word-in-Some-eq69 : goal.returns-in_err-word-in-Some-eq69
+returns-in_err-word-in-Some-eq69 c = let m = c.next_byte-first.result in let k = c.next_byte-first.ensures in let b : m.byte ≡ Some 69 = search rules in let e : c.from_residual.result ≡ Err c.in_err-word-in-Some-eq69.field-0.0 = search rules in subst (MemberScanned c.args.text.now c.args.at c.args.extent c.args.corners.now c.args.corners.now c.args.lengths.now c.args.lengths.now c.args.counts.now c.args.counts.now) (sym e) (empty_off c.args.text.now c.args.at m k _ b c.in_err-word-in-Some-eq69.ensures)
 
-pub shape_of-corners-then-first-eq40 : goal.shape_of-corners-then-first-eq40
-shape_of-corners-then-first-eq40 c = c.polygon.auto.corners
+pub returns-in_ok-word-in-Some-eq69 : goal.returns-in_ok-word-in-Some-eq69
+returns-in_ok-word-in-Some-eq69 c = let m = c.next_byte-first.result in let k = c.next_byte-first.ensures in let b : m.byte ≡ Some 69 = search rules in empty_there c.args.text.now c.args.at m k c.in_ok-word-in-Some-eq69.field-0 c.args.extent c.args.corners.now c.args.lengths.now c.args.counts.now b c.in_ok-word-in-Some-eq69.ensures c.requires.2
 
-pub shape_of-lengths-then-first-eq40 : goal.shape_of-lengths-then-first-eq40
-shape_of-lengths-then-first-eq40 c = c.polygon.auto.lengths
+pub returns-in_default : goal.returns-in_default
+returns-in_default c = let m = c.next_byte-first.result in let k = c.next_byte-first.ensures in member_off c.args.text.now c.args.at m k (other_byte m.byte c.in_default.field-0 40 c.in_default.is (search rules)) (other_byte m.byte c.in_default.field-0 69 c.in_default.is (search rules))
 
-pub shape_of-counts-then-first-eq40 : goal.shape_of-counts-then-first-eq40
-shape_of-counts-then-first-eq40 c = c.polygon.auto.counts
-
-pub returns-then-first-eq40 : goal.returns-then-first-eq40
-returns-then-first-eq40 c = member_opened c.args.text.now c.args.at c.next_byte-first.result c.next_byte-first.ensures c.args.extent c.args.corners.now _ c.args.lengths.now _ c.args.counts.now _ c.polygon.result c.if-first-eq40.true c.polygon.ensures
-
-pub returns-then-first-ne69 : goal.returns-then-first-ne69
-returns-then-first-ne69 c = member_off c.args.text.now c.args.at c.next_byte-first.result c.next_byte-first.ensures c.if-first-eq40.false c.if-first-ne69.true
-
-pub overflow_add-first-2 : goal.overflow_add-first-2
-overflow_add-first-2 c = let h = (byte_inside c.args.text.now c.args.at c.next_byte-first.result c.next_byte-first.ensures 68 c.if-first-ne69.false) in let l = c.requires.0 in omega (arith, h, l)
-
-pub matched-n-requires : goal.matched-n-requires
-matched-n-requires c = let h = (byte_inside c.args.text.now c.args.at c.next_byte-first.result c.next_byte-first.ensures 68 c.if-first-ne69.false) in let l = c.requires.0 in (omega (arith, h, l), omega arith)
-
-pub overflow_add-result : goal.overflow_add-result
-overflow_add-result c = let h = (byte_inside c.args.text.now c.args.at c.next_byte-first.result c.next_byte-first.ensures 68 c.if-first-ne69.false) in let l = c.requires.0 in omega (arith, h, l)
-
-pub overflow_add-result-then-n-lt4 : goal.overflow_add-result-then-n-lt4
-overflow_add-result-then-n-lt4 c = let h = (byte_inside c.args.text.now c.args.at c.next_byte-first.result c.next_byte-first.ensures 68 c.if-first-ne69.false) in let l = c.requires.0 in let m = c.matched-n.ensures.most in omega (arith, h, l, m)
-
-pub returns-then-n-lt4 : goal.returns-then-n-lt4
-returns-then-n-lt4 c = empty_off c.args.text.now c.args.at c.next_byte-first.result c.next_byte-first.ensures c.matched-n.result c.if-first-ne69.false c.matched-n.ensures c.if-n-lt4.true
-
-pub overflow_add-result-2 : goal.overflow_add-result-2
-overflow_add-result-2 c = let h = (byte_inside c.args.text.now c.args.at c.next_byte-first.result c.next_byte-first.ensures 68 c.if-first-ne69.false) in let l = c.requires.0 in omega (arith, h, l)
-
-pub returns : goal.returns
-returns c = empty_there c.args.text.now c.args.at c.next_byte-first.result c.next_byte-first.ensures c.matched-n.result c.args.extent c.args.corners.now c.args.lengths.now c.args.counts.now c.if-first-ne69.false c.matched-n.ensures c.if-n-lt4.false c.requires.2
+pub returns-in_default-2 : goal.returns-in_default-2
+returns-in_default-2 c = let m = c.next_byte-first.result in let k = c.next_byte-first.ensures in member_off c.args.text.now c.args.at m k (none_byte m.byte 40 c.in_default.is) (none_byte m.byte 69 c.in_default.is)

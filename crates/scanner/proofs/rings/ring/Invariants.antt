@@ -6,7 +6,7 @@ use Rattle.scanner.proofs.RingScans.{Round}
 use Rattle.scanner.proofs.rings.ring.Given as goal
 
 abbrev pub invariant-loop-place : goal.invariant-loop-place
-invariant-loop-place l = Round l.text l.at l.before l.initial.corners l.corners l.first l.count l.place × (l.lengths ≡ l.initial.lengths)
+invariant-loop-place l = Round l.text l.at l.extent.corners l.initial.corners l.corners l.first l.count l.place × (l.lengths ≡ l.initial.lengths)
 
 abbrev pub decreases-loop-place : goal.decreases-loop-place
 decreases-loop-place l = length l.text - l.place

@@ -1,22 +1,17 @@
 -- `scanner::texts::empty_text` meets its contract.
-use native.Mathlib.Omega.{arith}
+use borrow.Author.Rules.{rules}
+use mathlib.Core.Path.{◌≡◌, sym, subst}
+use Rattle.std.specs.Prelude.{Err}
+use Rattle.grammar.specs.Modes.{empty_text_mode}
+use Rattle.scanner.specs.Scanned.{EmptyScanned}
 use Rattle.scanner.proofs.TextScans.{empty_cut, empty_long, empty_whole}
 use Rattle.scanner.proofs.texts.empty_text.Goals as goal
 
-pub matched-n-requires : goal.matched-n-requires
-matched-n-requires c = let p = c.requires in let l = p.0 in let i = p.1 in (omega (arith, l, i), omega arith)
-
-pub overflow_add-result : goal.overflow_add-result
-overflow_add-result c = let p = c.requires in let l = p.0 in let i = p.1 in let m = c.matched-n.ensures.most in omega (arith, l, i, m)
-
-pub returns-then-n-lt4 : goal.returns-then-n-lt4
-returns-then-n-lt4 c = empty_cut c.args.text.now c.args.at c.matched-n.result c.matched-n.ensures c.if-n-lt4.true
-
-pub overflow_add-end : goal.overflow_add-end
-overflow_add-end c = let p = c.requires in let l = p.0 in let i = p.1 in omega (arith, l, i)
+pub returns-in_err-end : goal.returns-in_err-end
+returns-in_err-end c = let e : c.from_residual.result ≡ Err c.in_err-end.field-0.0 = search rules in subst (EmptyScanned c.args.text.now c.args.at (empty_text_mode 1)) (sym e) (empty_cut c.args.text.now c.args.at _ c.in_err-end.ensures)
 
 pub returns-then-end-text : goal.returns-then-end-text
-returns-then-end-text c = empty_long c.args.text.now c.args.at c.matched-n.result c.matched-n.ensures c.if-n-lt4.false c.if-end-text.true
+returns-then-end-text c = empty_long c.args.text.now c.args.at c.in_ok-end.end c.in_ok-end.ensures c.if-end-text.true
 
 pub returns : goal.returns
-returns c = empty_whole c.args.text.now c.args.at c.matched-n.result c.matched-n.ensures c.no_extent.result c.if-n-lt4.false c.if-end-text.false c.no_extent.ensures
+returns c = empty_whole c.args.text.now c.args.at c.in_ok-end.end c.in_ok-end.ensures c.if-end-text.false

@@ -1,8 +1,7 @@
 -- `testing::leaves::testing_pair` meets its contract.
 use mathlib.Core.Path.{◌∙◌}
 use lib.IntN.{◌-ℤ◌}
-use Rattle.integers.specs.Extremes.{min_z, max_z}
-use Rattle.integers.proofs.Bits.{read₂, got₂}
+use Rattle.integers.proofs.Bits.{read₂, least, greatest}
 use Rattle.testing.proofs.leaves.testing_pair.Goals as goal
 
 pub returns : goal.returns
@@ -13,7 +12,7 @@ returns c =
     let fb = c.ranges.b in
     let m = c.min in
     record {
-      least = got₂ min_z a b m.result fa fb (record { sfits = m.type_inv }) m.ensures;
-      greatest = got₂ max_z a b c.max.result fa fb (record { sfits = c.max.type_inv }) c.max.ensures;
+      least = least a b m.result fa fb (record { sfits = m.type_inv }) m.ensures.value;
+      greatest = greatest a b c.max.result fa fb (record { sfits = c.max.type_inv }) c.max.ensures.value;
       difference = c.difference-d.ensures ∙ read₂ ◌-ℤ◌ a b fa fb;
     }

@@ -1,45 +1,40 @@
 -- `walk::place::walk_to` meets its contract.
 use mathlib.Core.Path.{refl, ◌∙◌}
-use native.Mathlib.Omega.{arith}
+use Rattle.std.proofs.lemmas.Result.{err_from_is_err_and}
 use Rattle.walk.specs.declared.Query.TheVariants.{Holding}
 use Rattle.walk.specs.Steps.{Yields}
 use Rattle.walk.proofs.Seeking.{seeking_start, seeking_on, seeking_found, seeking_never, seeking_ended}
 use Rattle.walk.proofs.place.walk_to.Goals as goal
-use Rattle.walk.proofs.place.walk_to.Goals.{In-Edge}
+use Rattle.walk.proofs.place.walk_to.Goals.{In-Some}
 
 -- what a step that yields an edge says
-yields : (c : In-Edge) → Yields c.args.n c.args.boxes.now c.args.parts.now c.args.edges.now (Holding c.args.wanted) c.loop-yielded.stack c.loop-yielded.cursor c.next.new.stack c.in-Edge.yielded c.in-Edge.further
-yields c = rw c.in-Edge.is at c.next.ensures
+yields : (c : In-Some) → Yields c.args.n c.args.boxes.now c.args.parts.now c.args.edges.now (Holding c.args.wanted) c.loop-step.stack c.loop-step.cursor c.next.new.stack c.in-Some.step
+yields c = rw c.in-Some.is at c.in_ok-step.ensures
 
-pub loop-yielded-init : goal.loop-yielded-init
-loop-yielded-init c = let a = c.args in seeking_start a.n a.boxes.now a.parts.now a.edges.now a.wanted a.e _ _ refl refl c.start-cursor.ensures
+pub loop-step-init : goal.loop-step-init
+loop-step-init c = let a = c.args in seeking_start a.n a.boxes.now a.parts.now a.edges.now a.wanted a.e _ _ refl refl c.start-cursor.ensures
 
-pub overflow_sub-result : goal.overflow_sub-result
-overflow_sub-result c = omega (arith, (yields (goal.at.overflow_sub-result c).In-Edge).next)
-
-pub returns-then-yielded-e : goal.returns-then-yielded-e
-returns-then-yielded-e c =
+pub returns-then-step-e : goal.returns-then-step-e
+returns-then-step-e c =
     let a = c.args in
-    let l = c.loop-yielded in
-    seeking_found a.n a.boxes.now a.parts.now a.edges.now a.wanted a.e l.stack l.cursor l.invariant _ _ _ (yields (goal.at.returns-then-yielded-e c).In-Edge) c.if-yielded-e.true
+    let l = c.loop-step in
+    seeking_found a.n a.boxes.now a.parts.now a.edges.now a.wanted a.e l.stack l.cursor l.invariant _ _ (yields (goal.at.returns-then-step-e c).In-Some) c.if-step-e.true
 
-pub loop-yielded-smaller : goal.loop-yielded-smaller
-loop-yielded-smaller c = (yields (goal.at.loop-yielded-smaller c).In-Edge).less
-
-pub loop-yielded-preserved : goal.loop-yielded-preserved
-loop-yielded-preserved c =
+pub loop-step-preserved : goal.loop-step-preserved
+loop-step-preserved c =
     let a = c.args in
-    let l = c.loop-yielded in
-    seeking_on a.n a.boxes.now a.parts.now a.edges.now a.wanted a.e l.stack l.cursor l.invariant _ _ _ (c.next.auto.stack ∙ l.invariant.room) (yields (goal.at.loop-yielded-preserved c).In-Edge) c.if-yielded-e.false
+    let l = c.loop-step in
+    seeking_on a.n a.boxes.now a.parts.now a.edges.now a.wanted a.e l.stack l.cursor l.invariant _ _ (c.next.auto.stack ∙ l.invariant.room) (yields (goal.at.loop-step-preserved c).In-Some) c.if-step-e.false
 
-pub returns-in-End : goal.returns-in-End
-returns-in-End c =
+pub returns-in_err-step : goal.returns-in_err-step
+returns-in_err-step c =
     let a = c.args in
-    let l = c.loop-yielded in
-    seeking_ended a.n a.boxes.now a.parts.now a.edges.now a.wanted a.e l.stack l.cursor l.invariant c.next.new.stack (rw c.in-End.is at c.next.ensures)
+    let l = c.loop-step in
+    let refused = err_from_is_err_and c.from_residual.result c.from_residual.ensures.1 in
+    rw refused.1 (seeking_never a.n a.boxes.now a.parts.now a.edges.now a.wanted a.e l.stack l.cursor l.invariant c.in_err-step.ensures.never)
 
-pub returns-in-Unsound : goal.returns-in-Unsound
-returns-in-Unsound c =
+pub returns : goal.returns
+returns c =
     let a = c.args in
-    let l = c.loop-yielded in
-    seeking_never a.n a.boxes.now a.parts.now a.edges.now a.wanted a.e l.stack l.cursor l.invariant (rw c.in-Unsound.is at c.next.ensures).never
+    let l = c.loop-step in
+    seeking_ended a.n a.boxes.now a.parts.now a.edges.now a.wanted a.e l.stack l.cursor l.invariant c.next.new.stack (rw c.in_default.is at c.in_ok-step.ensures)

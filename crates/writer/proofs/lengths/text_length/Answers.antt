@@ -1,4 +1,5 @@
 -- `writer::lengths::text_length` meets its contract.
+use borrow.Author.Rules.{rules}
 use native.Mathlib.Omega.{arith}
 use Rattle.writer.proofs.Members.{all_rings, coordinates_few, rings_few, polygons_few, corners_sum, corners_few}
 use Rattle.writer.proofs.Measures.{empty_long, text_long}
@@ -12,10 +13,10 @@ rings_length-rings-requires c =
       rings_few a.coordinates.now a.lengths.now a.counts.now c.requires,
     )
 
-pub returns-then-counts-eq0 : goal.returns-then-counts-eq0
-returns-then-counts-eq0 c =
+pub returns-then-is_empty : goal.returns-then-is_empty
+returns-then-is_empty c =
     let a = c.args in
-    empty_long a.coordinates.now a.lengths.now a.counts.now c.requires _ c.rings_length-rings.ensures c.if-counts-eq0.true
+    empty_long a.coordinates.now a.lengths.now a.counts.now c.requires _ c.rings_length-rings.ensures (search rules)
 
 pub overflow_add-result-3 : goal.overflow_add-result-3
 overflow_add-result-3 c =
@@ -25,4 +26,4 @@ overflow_add-result-3 c =
 pub returns : goal.returns
 returns c =
     let a = c.args in
-    text_long a.coordinates.now a.lengths.now a.counts.now c.requires _ c.rings_length-rings.ensures c.if-counts-eq0.false
+    text_long a.coordinates.now a.lengths.now a.counts.now c.requires _ c.rings_length-rings.ensures (search rules)
