@@ -60,45 +60,49 @@ fn no_state() -> StateNumbers
 }
 
 // What preparing answers, in numbers.
-fn prepare_answer(preparing: Result<Ready, Refusal>) -> PrepareAnswer
-    ensures { result ≡ prepare_numbers preparing }
-{
-    match preparing {
-        Ok(ready) => PrepareAnswer {
-            refusal: 0,
-            table: 0,
-            nodes: ready.nodes,
-            state: numbers_of(ready.state),
-        },
-        Err(refusal) => PrepareAnswer {
-            refusal: refusal_number(refusal),
-            table: refusal_detail(refusal),
-            nodes: 0,
-            state: no_state(),
-        },
+impl From<Result<Ready, Refusal>> for PrepareAnswer {
+    ghost from_gives = { λ preparing answer. answer ≡ prepare_numbers preparing };
+
+    fn from(preparing: Result<Ready, Refusal>) -> PrepareAnswer {
+        match preparing {
+            Ok(ready) => PrepareAnswer {
+                refusal: 0,
+                table: 0,
+                nodes: ready.nodes,
+                state: numbers_of(ready.state),
+            },
+            Err(refusal) => PrepareAnswer {
+                refusal: refusal_number(refusal),
+                table: refusal_detail(refusal),
+                nodes: 0,
+                state: no_state(),
+            },
+        }
     }
 }
 
 // What a list of points is answered, in numbers.
-fn first_answer(first: Result<Option<usize>, Refusal>) -> FirstAnswer
-    ensures { result ≡ first_numbers first }
-{
-    match first {
-        Ok(Some(place)) => FirstAnswer {
-            refusal: 0,
-            found: 1,
-            place,
-        },
-        Ok(None) => FirstAnswer {
-            refusal: 0,
-            found: 0,
-            place: 0,
-        },
-        Err(refusal) => FirstAnswer {
-            refusal: refusal_number(refusal),
-            found: 0,
-            place: 0,
-        },
+impl From<Result<Option<usize>, Refusal>> for FirstAnswer {
+    ghost from_gives = { λ first answer. answer ≡ first_numbers first };
+
+    fn from(first: Result<Option<usize>, Refusal>) -> FirstAnswer {
+        match first {
+            Ok(Some(place)) => FirstAnswer {
+                refusal: 0,
+                found: 1,
+                place,
+            },
+            Ok(None) => FirstAnswer {
+                refusal: 0,
+                found: 0,
+                place: 0,
+            },
+            Err(refusal) => FirstAnswer {
+                refusal: refusal_number(refusal),
+                found: 0,
+                place: 0,
+            },
+        }
     }
 }
 
@@ -121,8 +125,8 @@ pub extern "C" fn findspot_prepare(
     ensures { PrepareSays (kind_named kind) (λ k preparing. Prepared (record { kind = k; coordinates = coordinates.now; lengths = lengths.now; counts = counts.now }) (record { corners = corners.old; rings = rings.old; polygons = polygons.old; boxes = boxes.old; parts = parts.old; edges = edges.old }) (record { corners = corners.new; rings = rings.new; polygons = polygons.new; boxes = boxes.new; parts = parts.new; edges = edges.new }) preparing) (◌≡◌ {A = Tables} (record { corners = corners.new; rings = rings.new; polygons = polygons.new; boxes = boxes.new; parts = parts.new; edges = edges.new }) (record { corners = corners.old; rings = rings.old; polygons = polygons.old; boxes = boxes.old; parts = parts.old; edges = edges.old })) result }
 {
     match kind_of(kind) {
-        None => prepare_answer(Err(Refusal::Unsound)),
-        Some(known) => prepare_answer(prepare(
+        None => PrepareAnswer::from(Err(Refusal::Unsound)),
+        Some(known) => PrepareAnswer::from(prepare(
             known,
             coordinates,
             lengths,
@@ -270,8 +274,8 @@ pub extern "C" fn findspot_first_not_outside(
     ensures { Listed (state_named state) points.now (λ s first. FirstSays s corners.now rings.now polygons.now boxes.now parts.now edges.now points.now first) result }
 {
     match state_of(state) {
-        None => first_answer(unnamed_first(points)),
-        Some(known) => first_answer(first_not_outside(
+        None => FirstAnswer::from(unnamed_first(points)),
+        Some(known) => FirstAnswer::from(first_not_outside(
             known, corners, rings, polygons, boxes, parts, edges, points,
         )),
     }

@@ -9,7 +9,7 @@ ghost use Rattle.lines.specs.declared.Size.{Size};
 ghost use Rattle.rules.specs.declared.Refusal.{Refusal};
 
 use index::count::node_count;
-use text::numbers::{ReadingNumbers, reading_numbers};
+use text::numbers::ReadingNumbers;
 use text::{Span, line_span, read_plan};
 
 /// Reads a plan's text into the tables that it is lent: `text::read_plan` in numbers.
@@ -24,7 +24,7 @@ pub extern "C" fn findspot_read_plan(
 ) -> ReadingNumbers
     ensures { (reading : (Result Size Refusal)) × PlanRead text.now corners.old corners.new lengths.old lengths.new counts.old counts.new reading × (result ≡ reading_numbers reading) }
 {
-    reading_numbers(read_plan(text, corners, lengths, counts))
+    ReadingNumbers::from(read_plan(text, corners, lengths, counts))
 }
 
 /// Where line k of a text stands, counted from 1: `text::line_span`. Nothing is refused.

@@ -8,7 +8,7 @@ ghost use Rattle.lines.specs.declared.Size.{Size};
 ghost use Rattle.rules.specs.declared.Refusal.{Refusal};
 
 use states::kind_of;
-use wkt::numbers::{ReadNumbers, WriteNumbers, read_numbers, write_numbers};
+use wkt::numbers::{ReadNumbers, WriteNumbers};
 use wkt::read::read_wkt;
 use wkt::write::{unnamed_writing, write_wkt};
 
@@ -24,7 +24,7 @@ pub extern "C" fn findspot_read_wkt(
 ) -> ReadNumbers
     ensures { (reading : (Result Size Refusal)) × WktRead text.now corners.old corners.new lengths.old lengths.new counts.old counts.new reading × (result ≡ read_numbers reading) }
 {
-    read_numbers(read_wkt(text, corners, lengths, counts))
+    ReadNumbers::from(read_wkt(text, corners, lengths, counts))
 }
 
 /// Writes a plan of kind 0 (a list) as Well-Known Text into the output that it is lent: `wkt::write::write_wkt` in numbers.
@@ -42,7 +42,7 @@ pub extern "C" fn findspot_write_wkt(
     ensures { WriteSays (kind_named kind) coordinates.now lengths.now counts.now output.old output.new result }
 {
     match kind_of(kind) {
-        None => write_numbers(unnamed_writing(coordinates, lengths, counts)),
-        Some(known) => write_numbers(write_wkt(known, coordinates, lengths, counts, output)),
+        None => WriteNumbers::from(unnamed_writing(coordinates, lengths, counts)),
+        Some(known) => WriteNumbers::from(write_wkt(known, coordinates, lengths, counts, output)),
     }
 }

@@ -35,24 +35,28 @@ pub enum Answer {
     Refused(Refusal),
 }
 
-/// A look-up's reply as an answer.
-pub fn reply_answer(reply: Reply) -> Answer
-    ensures { result ≡ answer_of reply }
-{
-    match reply {
-        Ok(location) => Answer::At(location),
-        Err(refusal) => Answer::Refused(refusal),
+// A look-up's reply as an answer.
+impl From<Reply> for Answer {
+    ghost from_gives = { λ reply answer. answer ≡ answer_of reply };
+
+    fn from(reply: Reply) -> Answer {
+        match reply {
+            Ok(location) => Answer::At(location),
+            Err(refusal) => Answer::Refused(refusal),
+        }
     }
 }
 
-/// An answer as one signed number: 0 outside, 1 inside, 2 on the boundary, 3 accepted, or minus the refusal's number.
-pub fn answer_number(answer: Answer) -> i64
-    ensures { result ≡ answer_number answer }
-{
-    match answer {
-        Answer::At(location) => reply_number(Ok(location)),
-        Answer::Accepted => 3,
-        Answer::Refused(refusal) => reply_number(Err(refusal)),
+// An answer as one signed number: 0 outside, 1 inside, 2 on the boundary, 3 accepted, or minus the refusal's number.
+impl From<Answer> for i64 {
+    ghost from_gives = { λ answer number. number ≡ answer_number answer };
+
+    fn from(answer: Answer) -> i64 {
+        match answer {
+            Answer::At(location) => reply_number(Ok(location)),
+            Answer::Accepted => 3,
+            Answer::Refused(refusal) => reply_number(Err(refusal)),
+        }
     }
 }
 

@@ -7,7 +7,7 @@ ghost use Rattle.corrections.specs.Corrected.{answered, state_after};
 ghost use Rattle.replay.specs.Replays.{Called};
 
 use corrections::{move_corner, undo as take_back};
-use model::{Answer, Call, answer_number, decode_call, reply_answer};
+use model::{Answer, Call, decode_call};
 use prepared::locate::locate;
 use rules::{Refusal, Reply, Spot, State};
 
@@ -23,7 +23,7 @@ fn looked_up(state: State, reply: Reply) -> Done
     ensures { result ≡ record { answer = answer_of reply; state = state } }
 {
     Done {
-        answer: reply_answer(reply),
+        answer: Answer::from(reply),
         state,
     }
 }
@@ -121,7 +121,7 @@ pub(crate) fn run_calls(
         let done = run_call(
             now, corners, rings, polygons, boxes, parts, edges, undo, call,
         );
-        answers[k] = answer_number(done.answer);
+        answers[k] = i64::from(done.answer);
         now = done.state;
     }
     now

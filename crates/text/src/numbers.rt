@@ -19,29 +19,31 @@ pub struct ReadingNumbers {
     pub polygons: usize,
 }
 
-/// The numbers of what reading a text answers.
-pub fn reading_numbers(reading: Result<Size, Refusal>) -> ReadingNumbers
-    ensures { result ≡ reading_numbers reading }
-{
-    match reading {
-        Ok(size) => {
-            let kind = size.kind;
-            ReadingNumbers {
-                refusal: 0,
-                detail: 0,
-                kind: kind_number(kind),
-                corners: size.corners,
-                rings: size.rings,
-                polygons: size.polygons,
+// The numbers of what reading a text answers.
+impl From<Result<Size, Refusal>> for ReadingNumbers {
+    ghost from_gives = { λ reading numbers. numbers ≡ reading_numbers reading };
+
+    fn from(reading: Result<Size, Refusal>) -> ReadingNumbers {
+        match reading {
+            Ok(size) => {
+                let kind = size.kind;
+                ReadingNumbers {
+                    refusal: 0,
+                    detail: 0,
+                    kind: kind_number(kind),
+                    corners: size.corners,
+                    rings: size.rings,
+                    polygons: size.polygons,
+                }
             }
+            Err(refusal) => ReadingNumbers {
+                refusal: refusal_number(refusal),
+                detail: refusal_detail(refusal),
+                kind: 0,
+                corners: 0,
+                rings: 0,
+                polygons: 0,
+            },
         }
-        Err(refusal) => ReadingNumbers {
-            refusal: refusal_number(refusal),
-            detail: refusal_detail(refusal),
-            kind: 0,
-            corners: 0,
-            rings: 0,
-            polygons: 0,
-        },
     }
 }

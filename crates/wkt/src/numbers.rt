@@ -26,42 +26,46 @@ pub struct WriteNumbers {
     pub length: usize,
 }
 
-/// The numbers of what reading answers.
-pub fn read_numbers(reading: Result<Size, Refusal>) -> ReadNumbers
-    ensures { result ≡ read_numbers reading }
-{
-    match reading {
-        Ok(size) => ReadNumbers {
-            refusal: 0,
-            detail: 0,
-            corners: size.corners,
-            rings: size.rings,
-            polygons: size.polygons,
-        },
-        Err(refusal) => ReadNumbers {
-            refusal: refusal_number(refusal),
-            detail: refusal_detail(refusal),
-            corners: 0,
-            rings: 0,
-            polygons: 0,
-        },
+// The numbers of what reading answers.
+impl From<Result<Size, Refusal>> for ReadNumbers {
+    ghost from_gives = { λ reading numbers. numbers ≡ read_numbers reading };
+
+    fn from(reading: Result<Size, Refusal>) -> ReadNumbers {
+        match reading {
+            Ok(size) => ReadNumbers {
+                refusal: 0,
+                detail: 0,
+                corners: size.corners,
+                rings: size.rings,
+                polygons: size.polygons,
+            },
+            Err(refusal) => ReadNumbers {
+                refusal: refusal_number(refusal),
+                detail: refusal_detail(refusal),
+                corners: 0,
+                rings: 0,
+                polygons: 0,
+            },
+        }
     }
 }
 
-/// The numbers of what writing answers.
-pub fn write_numbers(writing: Result<usize, Refusal>) -> WriteNumbers
-    ensures { result ≡ write_numbers writing }
-{
-    match writing {
-        Ok(length) => WriteNumbers {
-            refusal: 0,
-            table: 0,
-            length,
-        },
-        Err(refusal) => WriteNumbers {
-            refusal: refusal_number(refusal),
-            table: refusal_detail(refusal),
-            length: 0,
-        },
+// The numbers of what writing answers.
+impl From<Result<usize, Refusal>> for WriteNumbers {
+    ghost from_gives = { λ writing numbers. numbers ≡ write_numbers writing };
+
+    fn from(writing: Result<usize, Refusal>) -> WriteNumbers {
+        match writing {
+            Ok(length) => WriteNumbers {
+                refusal: 0,
+                table: 0,
+                length,
+            },
+            Err(refusal) => WriteNumbers {
+                refusal: refusal_number(refusal),
+                table: refusal_detail(refusal),
+                length: 0,
+            },
+        }
     }
 }

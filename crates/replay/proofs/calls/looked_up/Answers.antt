@@ -2,4 +2,4 @@
 use Rattle.replay.proofs.calls.looked_up.Goals as goal
 
 pub returns : goal.returns
-returns c = λ i. record { answer = c.reply_answer.ensures i; state = c.args.state }
+returns c = λ i. record { answer = c.from.ensures i; state = c.args.state }
