@@ -12,7 +12,7 @@ use Rattle.rules.specs.Numbers.{refusal_number}
 use Rattle.prepared.specs.Firsts.{points_verdict, First}
 use Rattle.capi.specs.declared.exports.FirstAnswer.{FirstAnswer}
 use Rattle.capi.specs.declared.exports.PrepareAnswer.{PrepareAnswer}
-use Rattle.corrections.specs.Corrected.{Corrected}
+use Rattle.corrections.specs.Answering.{Correction}
 use Rattle.states.specs.declared.StateNumbers.{StateNumbers}
 use Rattle.capi.specs.declared.moves.CorrectionAnswer.{CorrectionAnswer}
 use Rattle.states.specs.States.{kind_number, mark_number, state_named, state_numbers}
@@ -37,11 +37,11 @@ prepare_known named kind Promised Same preparing answer e promised is = subst (�
 
 -- ---- corrections
 
-pub correction_unknown : (named : Option State) (Promised : State → Corrected → Type 0) (Same : Type 0) (numbers : StateNumbers) (answer : CorrectionAnswer) → named ≡ None → Same → answer ≡ record { refusal = refusal_number Unsound; state = numbers } → CorrectionSays named Promised Same numbers answer
+pub correction_unknown : (named : Option State) (Promised : State → Correction → Type 0) (Same : Type 0) (numbers : StateNumbers) (answer : CorrectionAnswer) → named ≡ None → Same → answer ≡ record { refusal = refusal_number Unsound; state = numbers } → CorrectionSays named Promised Same numbers answer
 correction_unknown named Promised Same numbers answer e same is = subst (λ n. CorrectionSays n Promised Same numbers answer) (sym e) (same, is)
 
-pub correction_known : (named : Option State) (state : State) (Promised : State → Corrected → Type 0) (Same : Type 0) (numbers : StateNumbers) (corrected : Corrected) (answer : CorrectionAnswer) → named ≡ Some state → Promised state corrected → answer ≡ correction_numbers state corrected → CorrectionSays named Promised Same numbers answer
-correction_known named state Promised Same numbers corrected answer e promised is = subst (λ n. CorrectionSays n Promised Same numbers answer) (sym e) (corrected, promised, is)
+pub correction_known : (named : Option State) (state : State) (Promised : State → Correction → Type 0) (Same : Type 0) (numbers : StateNumbers) (correction : Correction) (answer : CorrectionAnswer) → named ≡ Some state → Promised state correction → answer ≡ correction_numbers state correction → CorrectionSays named Promised Same numbers answer
+correction_known named state Promised Same numbers correction answer e promised is = subst (λ n. CorrectionSays n Promised Same numbers answer) (sym e) (correction, promised, is)
 
 -- ---- a state's own numbers name it, so that what a call answers can be handed to the next
 pub state_returns : (state : State) → state_named (state_numbers state) ≡ Some state

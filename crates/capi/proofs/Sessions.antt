@@ -26,7 +26,7 @@ use Rattle.prepare.proofs.Readiness.{unmarked_near}
 use Rattle.query.specs.Calls.{LookedUp}
 use Rattle.outlines.proofs.Steps.{at_refused}
 use Rattle.prepared.specs.Calls.{Looked}
-use Rattle.corrections.specs.Corrected.{Corrected, answered, state_after}
+use Rattle.corrections.specs.Answering.{Correction, answered, state_after}
 use Rattle.model.specs.declared.Answer.{Answer}
 use Rattle.model.specs.declared.Call.{Call}
 use Rattle.model.specs.declared.Call.TheVariants.{Move, Undo, Locate, LocateDoubled}
@@ -66,28 +66,28 @@ record Stepped (call : Call) (d : Prepared) (number : ℤ) (k' : Kept) : Type 0 
 
 -- a move or an undo
 module _ (call : Call) (d : Prepared) (number : ℤ) (k' : Kept) (C : CorrectionCalled call (kept_of d) number k') (numbered : (a : Answer) → export_number call a ≡ export_number Undo a) where
-  abbrev leaving : State → Corrected → List ℕ → Prepared
-  leaving s corrected polygons = prepared_of (state_after s corrected) k'.corners d.rings polygons k'.boxes d.parts d.edges k'.undo
+  abbrev leaving : State → Correction → List ℕ → Prepared
+  leaving s correction polygons = prepared_of (state_after s correction) k'.corners d.rings polygons k'.boxes d.parts d.edges k'.undo
 
-  abbrev Promised : State → Corrected → Type 0
-  Promised s corrected = (polygons : List ℕ) → Step call (prepared_of s d.corners d.rings polygons d.boxes d.parts d.edges d.undo) (answered corrected) (leaving s corrected polygons)
+  abbrev Promised : State → Correction → Type 0
+  Promised s correction = (polygons : List ℕ) → Step call (prepared_of s d.corners d.rings polygons d.boxes d.parts d.edges d.undo) (answered correction) (leaving s correction polygons)
 
   abbrev Same : Type 0
   Same = ◌≡◌ {A = Written} (record { corners = k'.corners; boxes = k'.boxes; undo = k'.undo }) (record { corners = d.corners; boxes = d.boxes; undo = d.undo })
 
   -- the state's own numbers name it
-  named : (corrected : Corrected) × Promised d.state corrected × (C.answer ≡ correction_numbers d.state corrected)
+  named : (correction : Correction) × Promised d.state correction × (C.answer ≡ correction_numbers d.state correction)
   named = subst (λ (n : Option State). CorrectionSays n Promised Same (state_numbers d.state) C.answer) (state_returns d.state) C.promised
 
   corrected_step : Stepped call d number k'
   corrected_step =
-      let corrected = named.0 in
+      let correction = named.0 in
       let is = named.2 in
       record {
-        answer = answered corrected;
-        left = leaving d.state corrected d.polygons;
+        answer = answered correction;
+        left = leaving d.state correction d.polygons;
         step = named.1 d.polygons;
-        number_is = C.number_is ∙ ap (λ (q : CorrectionAnswer). pos q.refusal) is ∙ sym (numbered (answered corrected));
+        number_is = C.number_is ∙ ap (λ (q : CorrectionAnswer). pos q.refusal) is ∙ sym (numbered (answered correction));
         kept = λ t. record {
           numbers = (C.numbers_are ∙ ap (λ (q : CorrectionAnswer). q.state) is) t;
           corners = k'.corners;

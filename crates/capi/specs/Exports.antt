@@ -16,7 +16,7 @@ use Rattle.model.specs.declared.Answer as Answer
 use Rattle.model.specs.declared.Call.{Call}
 use Rattle.model.specs.Prepared.{prepared_of}
 use Rattle.model.specs.Steps.{Step}
-use Rattle.corrections.specs.Corrected.{Corrected, answered, state_after}
+use Rattle.corrections.specs.Answering.{Correction, answered, state_after}
 use Rattle.states.specs.declared.StateNumbers.{StateNumbers}
 use Rattle.capi.specs.declared.exports.PrepareAnswer.{PrepareAnswer}
 use Rattle.capi.specs.declared.exports.FirstAnswer.{FirstAnswer}
@@ -81,13 +81,13 @@ correction_refusal Answer.TheVariants.Accepted = 0
 correction_refusal (Answer.TheVariants.Refused refusal) = refusal_number refusal
 
 -- what it answers in numbers, with the state that goes with the tables from then on
-abbrev pub correction_numbers : State → Corrected → CorrectionAnswer
-correction_numbers state corrected = record { refusal = correction_refusal (answered corrected); state = state_numbers (state_after state corrected) }
+abbrev pub correction_numbers : State → Correction → CorrectionAnswer
+correction_numbers state correction = record { refusal = correction_refusal (answered correction); state = state_numbers (state_after state correction) }
 
 -- by what is promised of a correction from this state; 15, with the tables and the numbers as they were, where the numbers name no state
-abbrev pub CorrectionSays : (Option State) → (State → Corrected → Type 0) → Type 0 → StateNumbers → CorrectionAnswer → Type 0
+abbrev pub CorrectionSays : (Option State) → (State → Correction → Type 0) → Type 0 → StateNumbers → CorrectionAnswer → Type 0
 CorrectionSays None Promised Same numbers answer = Same × (answer ≡ record { refusal = refusal_number Unsound; state = numbers })
-CorrectionSays (Some state) Promised Same numbers answer = (corrected : Corrected) × Promised state corrected × (answer ≡ correction_numbers state corrected)
+CorrectionSays (Some state) Promised Same numbers answer = (correction : Correction) × Promised state correction × (answer ≡ correction_numbers state correction)
 
 -- the tables that a correction may write
 pub record Written : Type 0 where
@@ -99,5 +99,5 @@ pub record Written : Type 0 where
 abbrev pub Corrects : Call → StateNumbers → List ℤ → List ℕ → List (List ℤ) → List (List ℕ) → List ℕ → List (List ℤ) → List ℤ → List (List ℤ) → List (List ℤ) → CorrectionAnswer → Type 0
 Corrects call numbers corners rings boxes parts edges undo corners' boxes' undo' answer =
     CorrectionSays (state_named numbers)
-    (λ s corrected. ((polygons : List ℕ) → Step call (prepared_of s corners rings polygons boxes parts edges undo) (answered corrected) (prepared_of (state_after s corrected) corners' rings polygons boxes' parts edges undo')))
+    (λ s correction. ((polygons : List ℕ) → Step call (prepared_of s corners rings polygons boxes parts edges undo) (answered correction) (prepared_of (state_after s correction) corners' rings polygons boxes' parts edges undo')))
     (◌≡◌ {A = Written} (record { corners = corners'; boxes = boxes'; undo = undo' }) (record { corners = corners; boxes = boxes; undo = undo })) numbers answer

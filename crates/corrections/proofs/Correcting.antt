@@ -23,7 +23,7 @@ use Rattle.model.specs.Prepared.{Prepared, prepared_of, Sound}
 use Rattle.model.specs.Steps.{move_early, undo_early, early, at_depth, latest, ReachesBeside, Reaches, NamesCorner, Step, Open}
 use Rattle.model.proofs.Ways.{unsound_step, open_move}
 use Rattle.model.proofs.Tables.{Refitted, recorded, move_done, taken_back, undo_done}
-use Rattle.corrections.specs.Corrected.{Corrected, answered, state_after}
+use Rattle.corrections.specs.Answering.{Correction, answered, state_after}
 use Rattle.placing.specs.Ways.{CorrectionSound}
 use Rattle.placing.specs.Places.{MadeAt, Unmade}
 use Rattle.corrections.specs.TakingBack.{PutBack, TakenBack}
@@ -40,10 +40,10 @@ module _ (state : State) (corners : List ℤ) (rings polygons : List ℕ) (boxes
       record { reach = near.reach; few = near.few; ends = plan_rings state corners rings polygons S.plan; index = S.index }
 
   -- 15: nothing changed, and no sound tables get it
-  pub refused_step : (corners' : List ℤ) (boxes' : List (List ℤ)) (call : Call) (r : Corrected) → r ≡ Err Unsound → early call given ≡ Open → corners' ≡ corners → boxes' ≡ boxes → (Sound given → ⊥)
+  pub refused_step : (corners' : List ℤ) (boxes' : List (List ℤ)) (call : Call) (r : Correction) → r ≡ Err Unsound → early call given ≡ Open → corners' ≡ corners → boxes' ≡ boxes → (Sound given → ⊥)
       → Step call given (answered r) (prepared_of (state_after state r) corners' rings polygons boxes' parts edges undo)
   refused_step corners' boxes' call r is e same same₂ never =
-      subst (λ (q : Corrected). Step call given (answered q) (prepared_of (state_after state q) corners' rings polygons boxes' parts edges undo)) (sym is)
+      subst (λ (q : Correction). Step call given (answered q) (prepared_of (state_after state q) corners' rings polygons boxes' parts edges undo)) (sym is)
       (subst (λ (d : Prepared). Step call given (Refused Unsound) d) (λ t. prepared_of state (sym same t) rings polygons (sym same₂ t) parts edges undo)
       (unsound_step call given e never))
 
@@ -75,12 +75,12 @@ module _ (state : State) (corners : List ℤ) (rings polygons : List ℕ) (boxes
         left = λ t. prepared_of (s t) (M.corners_are t) rings polygons boxes' parts edges (row t)
 
     -- a correction that was not made
-    pub unmade_step : (call : Call) (r : Corrected) → r ≡ Err Unsound → early call given ≡ Open → i < state.corners → Unmade state.corners state.rings rings parts edges i corners boxes corners' boxes'
+    pub unmade_step : (call : Call) (r : Correction) → r ≡ Err Unsound → early call given ≡ Open → i < state.corners → Unmade state.corners state.rings rings parts edges i corners boxes corners' boxes'
         → Step call given (answered r) (prepared_of (state_after state r) corners' rings polygons boxes' parts edges undo)
     unmade_step call r is e one U = refused_step corners' boxes' call r is e U.corners_same U.boxes_same (λ S. U.never (correction_sound S) one)
 
     -- a corner put back where the latest record says
-    module _ (L : LatestIs state undo i place) (r : Corrected) where
+    module _ (L : LatestIs state undo i place) (r : Correction) where
       left : Prepared
       left = prepared_of (state_after state r) corners' rings polygons boxes' parts edges undo
 

@@ -1,3 +1,3 @@
-pub mod Corrected
+pub mod Answering
 pub mod TakingBack
 pub mod Records

@@ -5,7 +5,7 @@ ghost use Rattle.std.specs.Prelude.{◌≡◌, List, ℕ, ◌<◌};
 ghost use Rattle.model.specs.declared.Call.TheVariants.{Move, Undo};
 ghost use Rattle.model.specs.Prepared.{prepared_of};
 ghost use Rattle.model.specs.Steps.{at_depth, Step};
-ghost use Rattle.corrections.specs.Corrected.{answered, state_after};
+ghost use Rattle.corrections.specs.Answering.{answered, state_after};
 ghost use Rattle.corrections.specs.TakingBack.{TakenBack};
 
 mod records;

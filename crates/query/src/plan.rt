@@ -12,7 +12,9 @@ use outlines::shapes::{list_reply, tree_reply};
 use plans::{all_in_range, judge};
 use rules::{Kind, Location, Refusal, Reply, Spot, State, polygons_in};
 
-// By the plan's kind. A tree's polygon table is not looked at.
+// By the plan's kind. A tree's polygon table is not looked at. A function of its own in the machine's code too: in one with the half-grid's
+// loop both would keep what each edge needs in memory and not in registers.
+#[inline(never)]
 fn kind_reply(
     form: Form,
     kind: Kind,
@@ -29,7 +31,9 @@ fn kind_reply(
     }
 }
 
-// On the grid by the plan's kind, on the half-grid by all its edges.
+// On the grid by the plan's kind, on the half-grid by all its edges. A part of each caller in the machine's code: where the form and the grid are
+// known, the loop of the half-grid takes 5 to 30 hundredths less time.
+#[inline(always)]
 fn spot_reply(
     form: Form,
     kind: Kind,

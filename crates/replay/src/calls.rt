@@ -3,7 +3,7 @@ ghost use Rattle.std.specs.Prelude.{◌≡◌, ◌≤◌, length};
 ghost use Rattle.model.specs.Numbers.{answer_of};
 ghost use Rattle.model.specs.Prepared.{prepared_of};
 ghost use Rattle.model.specs.Steps.{Step};
-ghost use Rattle.corrections.specs.Corrected.{answered, state_after};
+ghost use Rattle.corrections.specs.Answering.{answered, state_after};
 ghost use Rattle.replay.specs.Replays.{Called};
 
 use corrections::{move_corner, undo as take_back};

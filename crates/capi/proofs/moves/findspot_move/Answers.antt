@@ -6,7 +6,7 @@ use Rattle.geom.specs.declared.Point.{Point}
 use Rattle.model.specs.declared.Call.TheVariants.{Move}
 use Rattle.model.specs.Prepared.{prepared_of}
 use Rattle.model.specs.Steps.{Step}
-use Rattle.corrections.specs.Corrected.{answered, state_after}
+use Rattle.corrections.specs.Answering.{answered, state_after}
 use Rattle.states.specs.States.{state_named}
 use Rattle.states.proofs.Replying.{place_read}
 use Rattle.capi.proofs.Namings.{correction_unknown, correction_known}

@@ -5,14 +5,14 @@ use Rattle.rules.specs.declared.State.{State}
 use Rattle.model.specs.declared.Answer.{Answer}
 use Rattle.model.specs.declared.Answer.TheVariants.{Accepted, Refused}
 
-abbrev pub Corrected : Type 0
-Corrected = Result State Refusal
+abbrev pub Correction : Type 0
+Correction = Result State Refusal
 
-abbrev pub answered : Corrected → Answer
+abbrev pub answered : Correction → Answer
 answered (Ok next) = Accepted
 answered (Err refusal) = Refused refusal
 
 -- a refusal leaves the state as it was
-abbrev pub state_after : State → Corrected → State
+abbrev pub state_after : State → Correction → State
 state_after state (Ok next) = next
 state_after state (Err refusal) = state
