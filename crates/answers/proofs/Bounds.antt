@@ -22,12 +22,12 @@ use Rattle.rules.specs.declared.Location.TheVariants.{Outside, Inside, OnBoundar
 use Rattle.rules.specs.Plans.{Plan}
 use Rattle.lines.specs.declared.records.Record.{Record}
 use Rattle.lines.specs.Plans.{Meaning, start_meaning, gives_meaning, broken_meaning, size_of, grown, empty_plan, is_header, allowed, after_line, at_end, after_lines, meaning}
-use Rattle.lines.specs.Records.{record_of}
 use Rattle.lines.proofs.Spans.{span, span_split}
 use Rattle.rules.specs.declared.Spot.{Spot}
 use Rattle.rules.specs.Spots.{spot_reply}
 use Rattle.rules.specs.declared.Spot.TheVariants.{OnGrid, Doubled}
-use Rattle.asked.specs.Queries.{point_from, point_of, word_query, query_of, asks}
+use Rattle.asked.specs.Queries.{word_query, query_of, asks}
+use Rattle.lines.specs.Records.{record_of, point_from, point_of}
 use Rattle.answers.specs.Replies.{place_word, reply_word, reply_line, refusal_line, answer_line, answer_end, replies}
 use Rattle.answers.specs.Answers.{plan_text, after_plan, too_large, judged, answered}
 use Rattle.asked.specs.Words.{grid_word, half_word}
@@ -139,18 +139,20 @@ Numbered n start_meaning = Unit {0}
 Numbered n (gives_meaning plan) = Unit {0}
 Numbered n (broken_meaning line) = line ≤ n
 
-line_numbered : (n k : ℕ) (m : Meaning) (row : Record) → k ≤ n → Numbered n m → Numbered n (after_line k m row)
-line_numbered n k start_meaning row h g = go (is_header row)
+line_numbered : (n k : ℕ) (m : Meaning) (said : Option Record) → k ≤ n → Numbered n m → Numbered n (after_line k m said)
+line_numbered n k start_meaning (Some row) h g = go (is_header row)
   where
     go : (b : Bool) → Numbered n (cond b (gives_meaning (grown (empty_plan Polygons) row)) (broken_meaning k))
     go true = tt
     go false = h
-line_numbered n k (gives_meaning plan) row h g = go (allowed (size_of plan) row)
+line_numbered n k start_meaning None h g = h
+line_numbered n k (gives_meaning plan) (Some row) h g = go (allowed (size_of plan) row)
   where
     go : (b : Bool) → Numbered n (cond b (gives_meaning (grown plan row)) (broken_meaning k))
     go true = tt
     go false = h
-line_numbered n k (broken_meaning line) row h g = g
+line_numbered n k (gives_meaning plan) None h g = h
+line_numbered n k (broken_meaning line) said h g = g
 
 end_numbered : (n k : ℕ) (m : Meaning) (last : List ℕ) → k ≤ n → Numbered n m → Numbered n (at_end k m last)
 end_numbered n k start_meaning last h g = h

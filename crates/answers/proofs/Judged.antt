@@ -3,7 +3,7 @@ use Rattle.std.specs.Prelude.{Err, Ok, Result}
 use mathlib.Core.Path.{◌≡◌, refl, sym, ap, subst, ◌∙◌}
 use mathlib.Core.Bool.{Bool, true, false, cond, ◌||◌}
 use mathlib.Core.List.{List}
-use Prim.Native.Nat.{ℕ, ◌+◌, ◌*◌, ◌≤◌}
+use Prim.Native.Nat.{ℕ, ◌*◌, ◌≤◌}
 use native.Mathlib.Omega.{arith}
 use lib.Dec.{ltb}
 use lib.ListN.{length, take, drop, length-take}
@@ -70,7 +70,7 @@ module _ (input : List ℕ) (small : length input ≤ 16384) (place : Place) (g 
   pub refused_line : (refusal : Refusal) → Err refusal ≡ reading (take place.from input) 1024 256 256 → refusal_line (refusal_number refusal) (line_named refusal) ≡ judged (meaning (plan_text (split 10 input))) (split 10 input)
   refused_line refusal e = by_reading refusal (split 10 input) (take place.from input) part_small e ∙ ap (λ text. judged (meaning text) (split 10 input)) (sym g.plan_part)
 
-  pub refused_room : (refusal : Refusal) (room : ℕ) → 65536 ≤ room → Err refusal ≡ reading (take place.from input) 1024 256 256 → 0 + length (refusal_line (refusal_number refusal) (line_named refusal)) ≤ room
+  pub refused_room : (refusal : Refusal) (room : ℕ) → 65536 ≤ room → Err refusal ≡ reading (take place.from input) 1024 256 256 → length (refusal_line (refusal_number refusal) (line_named refusal)) ≤ room
   refused_room refusal room h e = let l = ap length (refused_line refusal e) in let f = few input small in omega arith
 
   module _ (size : Size) (p : Given (take place.from input) 1024 256 256 size) where

@@ -62,7 +62,7 @@ at_no_refusal r l refusal e f = let one : ◌≡◌ {A = ℕ} 0 1 = cc in absurd
 
 -- ---- the plan prepared
 
-module _ (plan : Plan) (before after : Tables) (state : State) (nodes : ℕ) (p : Prepared plan before after (ready_with state nodes)) where
+module _ (plan : Plan) (before after : Tables) (state : State) (nodes : Option ℕ) (p : Prepared plan before after (ready_with state nodes)) where
   pub tables_prepared : PreparedTables state after.corners after.rings after.polygons after.boxes after.parts after.edges
   tables_prepared =
       record {
@@ -114,12 +114,12 @@ module _ (plan : Plan) (a : Admitted plan) where
   nodes_few : node_count (corner_count plan) ≤ 127
   nodes_few = let n = few.0 in omega (arith, node_count_within 5 (corner_count plan) (omega arith))
 
-  prepared_ready : (nodes : ℕ) × (ready_with (state_of plan) nodes ≡ preparing plan ceilings)
+  prepared_ready : (nodes : Option ℕ) × (ready_with (state_of plan) nodes ≡ preparing plan ceilings)
   prepared_ready = go (state_of plan).out_of_range refl
     where
-      go : (m : Bool) → (state_of plan).out_of_range ≡ m → (nodes : ℕ) × (ready_with (state_of plan) nodes ≡ preparing plan ceilings)
-      go true e = let n = few.0 in (0, ready_unindexed (state_of plan) ceilings (omega arith) few.1 polygons_few e ∙ accepted_next plan ceilings a.accepted)
-      go false e = let n = few.0 in (node_count (corner_count plan), ready_indexed (state_of plan) ceilings (omega arith) few.1 polygons_few e nodes_few nodes_few n ∙ accepted_next plan ceilings a.accepted)
+      go : (m : Bool) → (state_of plan).out_of_range ≡ m → (nodes : Option ℕ) × (ready_with (state_of plan) nodes ≡ preparing plan ceilings)
+      go true e = let n = few.0 in (None, ready_unindexed (state_of plan) ceilings (omega arith) few.1 polygons_few e ∙ accepted_next plan ceilings a.accepted)
+      go false e = let n = few.0 in (Some (node_count (corner_count plan)), ready_indexed (state_of plan) ceilings (omega arith) few.1 polygons_few e nodes_few nodes_few n ∙ accepted_next plan ceilings a.accepted)
 
   pub never_unprepared : {A : Type 0} (before after : Tables) (refusal : Refusal) → room_of before ≡ ceilings → Prepared plan before after (Err refusal) → A
   never_unprepared before after refusal room p =

@@ -6,14 +6,17 @@ use native.Mathlib.Numerals.{add-one}
 use native.Mathlib.Omega.{arith}
 use lib.ListN.{length, drop, length-append, length-drop}
 use Rattle.std.specs.Prelude.{Some, None}
+use Rattle.fields.specs.declared.lines.Line.{Line}
+use Rattle.fields.specs.declared.lines.Line.TheVariants.{Ended, Unended}
+use Rattle.fields.specs.Lines.{line_bytes, NextLine}
 use Rattle.fields.specs.Pieces.{split, Parted}
 use Rattle.fields.specs.Written.{Wrote}
-use Rattle.fields.proofs.Pieces.{some_piece, parted_length}
+use Rattle.fields.proofs.Pieces.{some_piece, parted_length, nothing_left}
 use Rattle.fields.proofs.Written.{overwritten_length, wrote_on, nothing_written}
 use Rattle.rules.specs.Plans.{Plan}
 use Rattle.rules.specs.declared.Spot.{Spot}
 use Rattle.asked.specs.Queries.{query_of}
-use Rattle.answers.specs.Replies.{reply_word, reply_line, refusal_line, answer_line, answer_end, replies, Due}
+use Rattle.answers.specs.Replies.{reply_word, reply_line, refusal_line, answer_line, answer_end, replies, asked_by, Due}
 
 -- ---- the definition, a line at a time
 
@@ -51,14 +54,14 @@ pub record Replying (plan : Plan) (input : List ℕ) (first number : ℕ) (outpu
   pub due : replies plan number (split 10 (drop first input)) ≡ done ++ replies plan line (split 10 rest)
 
 module _ (plan : Plan) (input : List ℕ) (first number : ℕ) (output₀ : List ℕ) (due : Due plan input first number output₀) where
-  pub begun : (rest : List ℕ) → rest ≡ drop first input → Replying plan input first number output₀ output₀ 0 number rest
-  begun rest e =
+  pub begun : (line : ℕ) (rest : List ℕ) → line ≡ number → rest ≡ drop first input → Replying plan input first number output₀ output₀ 0 line rest
+  begun line rest same e =
       let l = length-drop first input in
       let s = due.small in
       let f = due.starts in
       let n = due.numbered in
       let r = ap length e in
-      record { numbered = omega arith; done = []; wrote = nothing_written 0 output₀; due = ap (λ xs. replies plan number (split 10 xs)) (sym e) }
+      record { numbered = omega arith; done = []; wrote = nothing_written 0 output₀; due = ap (λ xs. replies plan number (split 10 xs)) (sym e) ∙ ap (λ k. replies plan k (split 10 rest)) (sym same) }
 
   module _ (output : List ℕ) (at line : ℕ) (rest : List ℕ) (g : Replying plan input first number output₀ output at line rest) where
     few_done : 0 + length g.done ≤ length output₀
@@ -81,47 +84,51 @@ module _ (plan : Plan) (input : List ℕ) (first number : ℕ) (output₀ : List
     pub over : (bytes output' : List ℕ) (r : ℕ) → replies plan line (split 10 rest) ≡ bytes → Wrote at bytes output output' r → Wrote 0 (replies plan number (split 10 (drop first input))) output₀ output' r
     over bytes output' r e w = subst (λ xs. Wrote 0 xs output₀ output' r) (sym (g.due ∙ ap (λ xs. g.done ++ xs) e)) (wrote_on 0 g.done output₀ few_done bytes output output' at r g.wrote w)
 
-    module _ (row after : List ℕ) (p : Parted 10 rest row after) where
-      -- a line that asks nothing is refused
-      malformed_is : query_of (split 9 row) ≡ None → replies plan line (split 10 rest) ≡ refusal_line 2 line
-      malformed_is q = next_line plan line rest row after p ∙ ap (λ said. answer_line plan line row said (replies plan (line + 1) (split 10 after))) q
+    -- what the rest comes to, by its first line
+    refused_is : (next : Line) (after : List ℕ) → NextLine rest (Some next) after → asked_by next ≡ None → replies plan line (split 10 rest) ≡ refusal_line 2 line
+    refused_is (Ended row) after p q = next_line plan line rest row.now after p ∙ ap (λ said. answer_line plan line row.now said (replies plan (line + 1) (split 10 after))) q
+    refused_is (Unended row) after p q = last_line plan line rest p.0 ∙ end_some line rest p.2
 
-      pub malformed_room : query_of (split 9 row) ≡ None → at + length (refusal_line 2 line) ≤ length output
-      malformed_room q = room_for (refusal_line 2 line) (let e = ap length (malformed_is q) in omega arith)
+    asked_is : (next : Line) (after : List ℕ) → NextLine rest (Some next) after → (query : Spot) → asked_by next ≡ Some query → replies plan line (split 10 rest) ≡ reply_line (line_bytes next) (reply_word plan query) ++ replies plan (line + 1) (split 10 after)
+    asked_is (Ended row) after p query q = next_line plan line rest row.now after p ∙ ap (λ said. answer_line plan line row.now said (replies plan (line + 1) (split 10 after))) q
+    asked_is (Unended row) after p query q = let one : ◌≡◌ {A = ℕ} 0 1 = cc in absurd (omega arith)
 
-      pub malformed : query_of (split 9 row) ≡ None → (output' : List ℕ) (r : ℕ) → Wrote at (refusal_line 2 line) output output' r → Wrote 0 (replies plan number (split 10 (drop first input))) output₀ output' r
-      malformed q output' r w = over (refusal_line 2 line) output' r (malformed_is q) w
+    shorter : (next : Line) (after : List ℕ) → NextLine rest (Some next) after → 1 + length after ≤ length rest
+    shorter (Ended row) after p = let l = parted_length 10 rest row.now after p in omega arith
+    shorter (Unended row) after p = let l = ap length p.3 in let h = p.2 in omega arith
 
-      module _ (query : Spot) (q : query_of (split 9 row) ≡ Some query) where
-        asked_is : replies plan line (split 10 rest) ≡ reply_line row (reply_word plan query) ++ replies plan (line + 1) (split 10 after)
-        asked_is = next_line plan line rest row after p ∙ ap (λ said. answer_line plan line row said (replies plan (line + 1) (split 10 after))) q
+    module _ (next : Line) (after : List ℕ) (n : NextLine rest (Some next) after) where
+      module _ (q : asked_by next ≡ None) (line' : ℕ) (l : line' ≡ line) where
+        refused_due : replies plan line (split 10 rest) ≡ refusal_line 2 line'
+        refused_due = refused_is next after n q ∙ ap (refusal_line 2) (sym l)
+
+        pub refused_room : at + length (refusal_line 2 line') ≤ length output
+        refused_room = room_for (refusal_line 2 line') (let e = ap length refused_due in omega arith)
+
+        pub refused : (output' : List ℕ) (r : ℕ) → Wrote at (refusal_line 2 line') output output' r → Wrote 0 (replies plan number (split 10 (drop first input))) output₀ output' r
+        refused output' r w = over (refusal_line 2 line') output' r refused_due w
+
+      module _ (row : List ℕ) (query : Spot) (b : row ≡ line_bytes next) (q : asked_by next ≡ Some query) where
+        asked_due : replies plan line (split 10 rest) ≡ reply_line row (reply_word plan query) ++ replies plan (line + 1) (split 10 after)
+        asked_due = asked_is next after n query q ∙ ap (λ bytes. reply_line bytes (reply_word plan query) ++ replies plan (line + 1) (split 10 after)) (sym b)
 
         pub asked_room : at + length (reply_line row (reply_word plan query)) ≤ length output
         asked_room =
-            let e = ap length asked_is in
+            let e = ap length asked_due in
             let l = length-append (reply_line row (reply_word plan query)) (replies plan (line + 1) (split 10 after)) in
             room_for (reply_line row (reply_word plan query)) (omega arith)
 
-        pub asked : (output' : List ℕ) (at' : ℕ) → Wrote at (reply_line row (reply_word plan query)) output output' at' → Replying plan input first number output₀ output' at' (line + 1) after
-        asked output' at' w =
-            let n = g.numbered in
-            let l = parted_length 10 rest row after p in
-            record {
+        pub asked : (output' : List ℕ) (at' line' : ℕ) → Wrote at (reply_line row (reply_word plan query)) output output' at' → line' ≡ line + 1 → Replying plan input first number output₀ output' at' line' after
+        asked output' at' line' w l =
+            let m = g.numbered in
+            let s = shorter next after n in
+            subst (λ k. Replying plan input first number output₀ output' at' k after) (sym l)
+            (record {
               numbered = omega arith;
               done = g.done ++ reply_line row (reply_word plan query);
               wrote = wrote_on 0 g.done output₀ few_done (reply_line row (reply_word plan query)) output output' at at' g.wrote w;
-              due = g.due ∙ ap (λ xs. g.done ++ xs) asked_is ∙ sym (append_assoc g.done (reply_line row (reply_word plan query)) (replies plan (line + 1) (split 10 after)));
-            }
+              due = g.due ∙ ap (λ xs. g.done ++ xs) asked_due ∙ sym (append_assoc g.done (reply_line row (reply_word plan query)) (replies plan (line + 1) (split 10 after)));
+            })
 
-    module _ (e : split 10 rest ≡ rest ∷ []) where
-      unended_is : (length rest ≡ 0 → ⊥) → replies plan line (split 10 rest) ≡ refusal_line 2 line
-      unended_is h = last_line plan line rest e ∙ end_some line rest (omega arith)
-
-      pub unended_room : (length rest ≡ 0 → ⊥) → at + length (refusal_line 2 line) ≤ length output
-      unended_room h = room_for (refusal_line 2 line) (let l = ap length (unended_is h) in omega arith)
-
-      pub unended : (length rest ≡ 0 → ⊥) → (output' : List ℕ) (r : ℕ) → Wrote at (refusal_line 2 line) output output' r → Wrote 0 (replies plan number (split 10 (drop first input))) output₀ output' r
-      unended h output' r w = over (refusal_line 2 line) output' r (unended_is h) w
-
-      pub all_replied : length rest ≡ 0 → Wrote 0 (replies plan number (split 10 (drop first input))) output₀ output at
-      all_replied h = over [] output at (last_line plan line rest e ∙ end_none line rest h) (nothing_written at output)
+    pub all_replied : rest ≡ [] → Wrote 0 (replies plan number (split 10 (drop first input))) output₀ output at
+    all_replied h = over [] output at (last_line plan line rest (nothing_left 10 rest h) ∙ end_none line rest (ap length h)) (nothing_written at output)

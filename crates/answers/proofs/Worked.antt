@@ -11,9 +11,9 @@ use Rattle.rules.specs.Lists.{any_of, count_of, sum_of, total, parts_of}
 use Rattle.rules.specs.Plans.{corners_of, rings_of, polygons_of, all_in_range, plan_in_range, plan_reply, plan_half_reply}
 use Rattle.rules.specs.Replies.{ring_reply, holes_reply, polygon_reply, list_reply, tree_reply, doubled_edges, half_reply}
 use Rattle.lines.specs.Plans.{last_one_more, grown, after_lines, meaning}
-use Rattle.lines.specs.Records.{one_field, two_fields, three_fields, record_of}
+use Rattle.lines.specs.Records.{one_field, two_fields, point_of, three_fields, record_of}
 use Rattle.lines.specs.Words.{plan, list, outer, hole, at}
-use Rattle.asked.specs.Queries.{point_of, word_query, query_of, asks}
+use Rattle.asked.specs.Queries.{word_query, query_of, asks}
 use Rattle.answers.specs.Replies.{replies}
 use Rattle.answers.specs.Answers.{plan_text, after_plan, answered}
 use Rattle.asked.specs.Words.{grid_word, half_word}

@@ -1,8 +1,11 @@
 -- What is written for the lines after the plan (document 01, "Trays to try").
-use Rattle.std.specs.Prelude.{◌≡◌, true, false, List, [], ◌∷◌, ◌++◌, ℕ, suc, ◌+◌, ◌≤◌, ℤ, length, drop, Option, Some, None}
+use Rattle.std.specs.Prelude.{◌≡◌, true, false, List, [], ◌∷◌, ◌++◌, ℕ, suc, ◌+◌, ◌≤◌, ℤ, length, drop, Option, Some, None, MatchOption}
 use Rattle.fields.specs.Decimals.{digits}
+use Rattle.std.specs.Borrow.{Bor}
+use Rattle.fields.specs.declared.lines.Line.{Line}
+use Rattle.fields.specs.declared.lines.Line.TheVariants.{Ended, Unended}
+use Rattle.fields.specs.Lines.{line_bytes}
 use Rattle.fields.specs.Pieces.{split}
-use Rattle.rules.specs.declared.Kind.{Kind}
 use Rattle.rules.specs.declared.Location.{Location}
 use Rattle.rules.specs.declared.Location.TheVariants.{Outside, Inside, OnBoundary}
 use Rattle.rules.specs.declared.Refusal.{Refusal}
@@ -10,6 +13,7 @@ use Rattle.rules.specs.declared.Refusal.TheVariants.{TextTooLong, BadLine, Uneve
 use Rattle.rules.specs.declared.State.{State}
 use Rattle.rules.specs.Plans.{Plan, plan_in_range}
 use Rattle.rules.specs.Tables.{plan_of}
+use Rattle.gather.specs.declared.tables.Tables.{Tables}
 use Rattle.gather.specs.Regions.{LookSound}
 use Rattle.rules.specs.declared.Spot.{Spot}
 use Rattle.rules.specs.Spots.{spot_reply}
@@ -75,14 +79,22 @@ replies plan k (line ∷ next ∷ lines) = answer_line plan k line (query_of (sp
 
 -- ---- what the functions that write them are given
 
--- a plan as it is handed in
-abbrev pub handed : Kind → List ℤ → List ℕ → List ℕ → Plan
-handed kind coordinates lengths counts = record { kind = kind; coordinates = coordinates; lengths = lengths; counts = counts }
+-- what a line asks; an unended one asks nothing
+abbrev pub asked_by : Line → Option Spot
+asked_by (Ended row) = query_of (split 9 row.now)
+asked_by (Unended row) = None
+
+-- a line's bytes with what it asks, or a line that asks nothing
+abbrev pub QueryOn : Line → Option (Bor (List ℕ) × Spot) → Type 0
+QueryOn line r = MatchOption r (asked_by line ≡ None) (λ asked. (asked.0.now ≡ line_bytes line) × (asked_by line ≡ Some asked.1))
 
 -- the tables of a prepared plan: item 6's mark stands only where a corner is out of range, and without it the tables are sound (item 9)
 pub record PreparedTables (state : State) (corners : List ℤ) (rings polygons : List ℕ) (boxes : List (List ℤ)) (parts : List (List ℕ)) (edges : List ℕ) : Type 0 where
   pub marked : state.out_of_range ≡ true → plan_in_range (plan_of state corners rings polygons) ≡ false
   pub sound : state.out_of_range ≡ false → LookSound state corners rings polygons boxes parts edges
+
+abbrev pub PreparedIn : State → Tables → Type 0
+PreparedIn state tables = PreparedTables state tables.corners.now tables.rings.now tables.polygons.now tables.boxes.now tables.parts.now tables.edges.now
 
 -- a line of a small input with its number, and room for the replies from there on
 pub record Due (plan : Plan) (input : List ℕ) (from line : ℕ) (output : List ℕ) : Type 0 where

@@ -5,18 +5,21 @@ ghost use Rattle.std.specs.Prelude.{◌≤◌, length, drop};
 ghost use Rattle.fields.specs.Pieces.{split};
 ghost use Rattle.fields.specs.Written.{Wrote};
 ghost use Rattle.lines.specs.Plans.{meaning};
-ghost use Rattle.answers.specs.Replies.{replies, handed, Due};
-ghost use Rattle.answers.specs.Answers.{plan_text, judged, Admitted, answered, Tables, Answered};
+ghost use Rattle.answers.specs.Replies.{replies, Due};
+ghost use Rattle.answers.specs.Answers.{plan_text, judged, Admitted, answered, Tables as TextTables, Answered};
 
+mod output;
 mod parts;
 mod replies;
 
 use fields::write::put;
 use parts::first_query;
+use plans::Plan;
 use prepare::prepare;
-use replies::{line_named, put_refusal, put_replies};
-use rules::{Kind, refusal_number};
-use text::read_plan;
+use prepared::locate::Tables;
+use replies::{put_refusal, put_replies};
+use rules::Refusal;
+use text::{first_plan, read_plan};
 
 /// The most bytes that an input may have.
 pub const MAX_INPUT: usize = 16384;
@@ -31,17 +34,14 @@ pub struct OutputTooShort;
 // What is written for the lines of an input from a line on, whose number is given. The plan, which is within the ceilings, is prepared once
 // (512 corners have at most N(512) = 127 nodes); then each line is looked up in its tables.
 fn answer_lines(
-    kind: Kind,
-    coordinates: &[i64],
-    lengths: &[usize],
-    counts: &[usize],
+    plan: &Plan<'_>,
     input: &[u8],
     first: usize,
     number: usize,
     output: &mut [u8],
 ) -> usize
-    requires { Admitted (handed kind coordinates.now lengths.now counts.now) × Due (handed kind coordinates.now lengths.now counts.now) input.now first number output.old }
-    ensures { Wrote 0 (replies (handed kind coordinates.now lengths.now counts.now) number (split 10 (drop first input.now))) output.old output.new result }
+    requires { Admitted plan.now × Due plan.now input.now first number output.old }
+    ensures { Wrote 0 (replies plan.now number (split 10 (drop first input.now))) output.old output.new result }
 {
     let mut corners = [0i64; 1024];
     let mut rings = [0usize; 256];
@@ -50,10 +50,7 @@ fn answer_lines(
     let mut parts = [[0usize; 3]; 127];
     let mut edges = [0usize; 512];
     match prepare(
-        kind,
-        coordinates,
-        lengths,
-        counts,
+        plan,
         &mut corners,
         &mut rings,
         &mut polygons,
@@ -61,19 +58,17 @@ fn answer_lines(
         &mut parts,
         &mut edges,
     ) {
-        Ok(ready) => put_replies(
-            ready.state,
-            &corners,
-            &rings,
-            &polygons,
-            &boxes,
-            &parts,
-            &edges,
-            input,
-            first,
-            number,
-            output,
-        ),
+        Ok(ready) => {
+            let tables = Tables {
+                corners: &corners,
+                rings: &rings,
+                polygons: &polygons,
+                boxes: &boxes,
+                parts: &parts,
+                edges: &edges,
+            };
+            put_replies(ready.state, &tables, input, first, number, output)
+        }
         // No accepted plan within the ceilings comes to this.
         Err(_) => 0,
     }
@@ -87,7 +82,7 @@ fn answer_in(
     counts: &mut [usize],
     output: &mut [u8],
 ) -> usize
-    requires { (length input.now ≤ 16384) × (65536 ≤ length output.old) × Tables corners.old lengths.old counts.old }
+    requires { (length input.now ≤ 16384) × (65536 ≤ length output.old) × TextTables corners.old lengths.old counts.old }
     ensures { Wrote 0 (judged (meaning (plan_text (split 10 input.now))) (split 10 input.now)) output.old output.new result }
 {
     let place = first_query(input);
@@ -95,22 +90,10 @@ fn answer_in(
     let line = place.line;
     match read_plan(&input[..from], corners, lengths, counts) {
         Ok(size) => {
-            let kind = size.kind;
-            let n = 2 * size.corners;
-            let r = size.rings;
-            let q = size.polygons;
-            answer_lines(
-                kind,
-                &corners[..n],
-                &lengths[..r],
-                &counts[..q],
-                input,
-                from,
-                line,
-                output,
-            )
+            let plan = first_plan(size, corners, lengths, counts);
+            answer_lines(&plan, input, from, line, output)
         }
-        Err(refusal) => { put_refusal(output, 0, refusal_number(refusal), line_named(refusal)) }
+        Err(refusal) => put_refusal(output, refusal),
     }
 }
 
@@ -120,7 +103,7 @@ fn answer_whole(input: &[u8], output: &mut [u8]) -> usize
     ensures { Wrote 0 (answered input.now) output.old output.new result }
 {
     if MAX_INPUT < input.len() {
-        return put_refusal(output, 0, 1, 0);
+        return put_refusal(output, Refusal::TextTooLong);
     }
     let mut corners = [0i64; 1024];
     let mut lengths = [0usize; 256];

@@ -3,7 +3,7 @@ ghost use Rattle.std.specs.Prelude.{◌≤◌, length};
 ghost use Rattle.answers.specs.Answers.{FirstQuery};
 
 use asked::asks;
-use fields::split_once;
+use fields::lines::Lines;
 
 /// Where a line starts, and its number.
 #[derive(Clone, Copy)]
@@ -12,27 +12,20 @@ pub(crate) struct Place {
     pub line: usize,
 }
 
-/// The first line that asks, which ends the plan. The input's end where there is none.
+/// The first line that asks, which ends the plan. The input's end where there is none. An unended line asks too.
 pub(crate) fn first_query(input: &[u8]) -> Place
     requires { length input.now ≤ 16384 }
     ensures { FirstQuery input.now result }
 {
-    let mut place = Place { from: 0, line: 1 };
-    let mut rest = input;
-    while let Some((row, after)) = split_once(rest, b'\n') {
-        if asks(row) {
-            return place;
+    let mut from = 0;
+    for (k, line) in Lines::of(input).enumerate() {
+        if asks(line.bytes()) {
+            return Place { from, line: k + 1 };
         }
-        place.from += row.len() + 1;
-        place.line += 1;
-        rest = after;
-    }
-    // What stands after the last line end is a line where it asks, though an unended one.
-    if asks(rest) {
-        return place;
+        from += line.size();
     }
     Place {
         from: input.len(),
-        ..place
+        line: 1,
     }
 }

@@ -2,95 +2,87 @@
 ghost use Rattle.std.specs.Prelude.{◌≡◌, ◌+◌, ◌≤◌, length, drop};
 ghost use Rattle.fields.specs.Pieces.{split};
 ghost use Rattle.fields.specs.Written.{Wrote};
+ghost use Rattle.rules.specs.Numbers.{refusal_number};
 ghost use Rattle.rules.specs.Spots.{spot_reply};
-ghost use Rattle.rules.specs.Tables.{plan_of};
-ghost use Rattle.answers.specs.Replies.{place_word, reply_word, reply_line, number_field, refusal_line, line_named, replies, PreparedTables, Due};
+ghost use Rattle.gather.specs.Lent.{plan_in};
+ghost use Rattle.answers.specs.Replies.{place_word, reply_word, reply_line, number_field, refusal_line, line_named, replies, QueryOn, PreparedIn, Due};
 
+use crate::output::Output;
 use asked::read_query;
-use fields::split_once;
-use fields::write::{put, put_digits};
-use prepared::locate::locate;
+use fields::lines::{Line, Lines};
+use prepared::locate::{Tables, locate};
 use rules::{Location, Refusal, Spot, State};
 
 // Where a spot lies in a prepared plan.
-fn place_at(
-    state: State,
-    corners: &[i64],
-    rings: &[usize],
-    polygons: &[usize],
-    boxes: &[[i64; 4]],
-    parts: &[[usize; 3]],
-    edges: &[usize],
-    spot: Spot,
-) -> Location
-    requires { PreparedTables state corners.now rings.now polygons.now boxes.now parts.now edges.now }
-    ensures { result ≡ spot_reply (plan_of state corners.now rings.now polygons.now) spot }
+fn place_at(state: State, tables: &Tables<'_>, spot: Spot) -> Location
+    requires { PreparedIn state tables.now }
+    ensures { result ≡ spot_reply (plan_in state tables.now) spot }
 {
-    match locate(state, corners, rings, polygons, boxes, parts, edges, spot) {
-        Ok(location) => location,
-        // No prepared plan's tables come to this.
-        Err(_) => Location::Outside,
-    }
+    // No prepared plan's tables are refused.
+    locate(state, tables, spot).unwrap_or(Location::Outside)
 }
 
 // The word of a place.
-fn put_place(output: &mut [u8], at: usize, location: Location) -> usize
-    requires { at + length (place_word location) ≤ length output.old }
-    ensures { Wrote at (place_word location) output.old output.new result }
+fn word_of(location: Location) -> &'static [u8]
+    ensures { result.now ≡ place_word location }
 {
     match location {
-        Location::Outside => put(output, at, b"outside"),
-        Location::Inside => put(output, at, b"inside"),
-        Location::OnBoundary => put(output, at, b"boundary"),
+        Location::Outside => b"outside",
+        Location::Inside => b"inside",
+        Location::OnBoundary => b"boundary",
     }
 }
 
 // The line of a reply: the query's line as it stands, and the word.
-fn put_reply(
-    state: State,
-    corners: &[i64],
-    rings: &[usize],
-    polygons: &[usize],
-    boxes: &[[i64; 4]],
-    parts: &[[usize; 3]],
-    edges: &[usize],
-    line: &[u8],
-    spot: Spot,
-    output: &mut [u8],
-    at: usize,
-) -> usize
-    requires { PreparedTables state corners.now rings.now polygons.now boxes.now parts.now edges.now × (at + length (reply_line line.now (reply_word (plan_of state corners.now rings.now polygons.now) spot)) ≤ length output.old) }
-    ensures { Wrote at (reply_line line.now (reply_word (plan_of state corners.now rings.now polygons.now) spot)) output.old output.new result }
+fn put_reply(state: State, tables: &Tables<'_>, line: &[u8], spot: Spot, output: &mut Output<'_>)
+    requires { PreparedIn state tables.now × (output.old.at + length (reply_line line.now (reply_word (plan_in state tables.now) spot)) ≤ length output.old.bytes.now) }
+    ensures wrote { Wrote output.old.at (reply_line line.now (reply_word (plan_in state tables.now) spot)) output.old.bytes.now output.new.bytes.now output.new.at }
+    ensures same_reference { output.new.bytes.ghost_name ≡ output.old.bytes.ghost_name }
 {
-    let repeated = put(output, at, line);
-    let parted = put(output, repeated, b"\t");
-    let place = place_at(state, corners, rings, polygons, boxes, parts, edges, spot);
-    let replied = put_place(output, parted, place);
-    put(output, replied, b"\n")
+    let place = place_at(state, tables, spot);
+    output.put(line);
+    output.put(b"\t");
+    output.put(word_of(place));
+    output.put(b"\n");
 }
 
 // A further field with a number.
-fn put_number(output: &mut [u8], at: usize, n: usize) -> usize
-    requires { at + length (number_field n) ≤ length output.old }
-    ensures { Wrote at (number_field n) output.old output.new result }
+fn put_number(output: &mut Output<'_>, n: usize)
+    requires { output.old.at + length (number_field n) ≤ length output.old.bytes.now }
+    ensures wrote { Wrote output.old.at (number_field n) output.old.bytes.now output.new.bytes.now output.new.at }
+    ensures same_reference { output.new.bytes.ghost_name ≡ output.old.bytes.ghost_name }
 {
-    let parted = put(output, at, b"\t");
-    put_digits(output, parted, n)
+    output.put(b"\t");
+    output.put_digits(n);
 }
 
-/// The line of a refusal: its number, and the line that it names.
-pub(crate) fn put_refusal(output: &mut [u8], at: usize, number: usize, line: usize) -> usize
-    requires { at + length (refusal_line number line) ≤ length output.old }
-    ensures { Wrote at (refusal_line number line) output.old output.new result }
+// The line of a refusal: its number, and the line that it names.
+fn refuse(output: &mut Output<'_>, refusal: Refusal)
+    requires { output.old.at + length (refusal_line (refusal_number refusal) (line_named refusal)) ≤ length output.old.bytes.now }
+    ensures wrote { Wrote output.old.at (refusal_line (refusal_number refusal) (line_named refusal)) output.old.bytes.now output.new.bytes.now output.new.at }
+    ensures same_reference { output.new.bytes.ghost_name ≡ output.old.bytes.ghost_name }
 {
-    let named = put(output, at, b"refused");
-    let numbered = put_number(output, named, number);
-    let placed = put_number(output, numbered, line);
-    put(output, placed, b"\n")
+    output.put(b"refused");
+    put_number(output, usize::from(refusal));
+    put_number(output, line_named(refusal));
+    output.put(b"\n");
 }
 
-/// The line that a refusal names: 0 where it names none.
-pub(crate) fn line_named(refusal: Refusal) -> usize
+/// A refusal's line alone, and how many bytes it has.
+pub(crate) fn put_refusal(output: &mut [u8], refusal: Refusal) -> usize
+    requires { length (refusal_line (refusal_number refusal) (line_named refusal)) ≤ length output.old }
+    ensures { Wrote 0 (refusal_line (refusal_number refusal) (line_named refusal)) output.old output.new result }
+{
+    let mut output = Output {
+        bytes: output,
+        at: 0,
+    };
+    refuse(&mut output, refusal);
+    output.at
+}
+
+// The line that a refusal names: 0 where it names none.
+fn line_named(refusal: Refusal) -> usize
     ensures { result ≡ line_named refusal }
 {
     match refusal {
@@ -99,39 +91,37 @@ pub(crate) fn line_named(refusal: Refusal) -> usize
     }
 }
 
+// A line that asks, and what it asks. `None` for a line off the format, as an unended one is.
+fn query_on(line: Line<'_>) -> Option<(&[u8], Spot)>
+    ensures { QueryOn line.entry result }
+{
+    let row = line.ended()?;
+    Some((row, read_query(row)?))
+}
+
 /// What is written for the lines of an input from a line on, whose number is given, by look-ups in a prepared plan: a reply for each, or a
 /// refusal after which nothing is written. What is returned is how many bytes there are.
 pub(crate) fn put_replies(
     state: State,
-    corners: &[i64],
-    rings: &[usize],
-    polygons: &[usize],
-    boxes: &[[i64; 4]],
-    parts: &[[usize; 3]],
-    edges: &[usize],
+    tables: &Tables<'_>,
     input: &[u8],
     first: usize,
     number: usize,
     output: &mut [u8],
 ) -> usize
-    requires { PreparedTables state corners.now rings.now polygons.now boxes.now parts.now edges.now × Due (plan_of state corners.now rings.now polygons.now) input.now first number output.old }
-    ensures { Wrote 0 (replies (plan_of state corners.now rings.now polygons.now) number (split 10 (drop first input.now))) output.old output.new result }
+    requires { PreparedIn state tables.now × Due (plan_in state tables.now) input.now first number output.old }
+    ensures { Wrote 0 (replies (plan_in state tables.now) number (split 10 (drop first input.now))) output.old output.new result }
 {
-    let mut at = 0;
-    let mut line = number;
-    let mut rest = &input[first..];
-    while let Some((row, after)) = split_once(rest, b'\n') {
-        let Some(query) = read_query(row) else {
-            return put_refusal(output, at, 2, line);
+    let mut output = Output {
+        bytes: output,
+        at: 0,
+    };
+    for (k, line) in Lines::of(&input[first..]).enumerate() {
+        let Some((row, query)) = query_on(line) else {
+            refuse(&mut output, Refusal::BadLine(number + k));
+            return output.at;
         };
-        at = put_reply(
-            state, corners, rings, polygons, boxes, parts, edges, row, query, output, at,
-        );
-        line += 1;
-        rest = after;
+        put_reply(state, tables, row, query, &mut output);
     }
-    if !rest.is_empty() {
-        return put_refusal(output, at, 2, line);
-    }
-    at
+    output.at
 }

@@ -1,20 +1,10 @@
 -- What a line after the plan asks (document 01, "Trays to try": `coin`, x, y or `half`, doubled x, doubled y).
-use Rattle.std.specs.Prelude.{Bool, false, cond, ◌||◌, List, [], ◌∷◌, ℕ, ℤ, Option, Some, None, option_map}
-use Rattle.geom.specs.declared.Point.{Point}
+use Rattle.std.specs.Prelude.{Bool, false, cond, ◌||◌, List, [], ◌∷◌, ℕ, Option, Some, None, option_map}
 use Rattle.fields.specs.Bytes.{same_bytes}
-use Rattle.fields.specs.Decimals.{number_of}
+use Rattle.lines.specs.Records.{point_of}
 use Rattle.rules.specs.declared.Spot.{Spot}
 use Rattle.rules.specs.declared.Spot.TheVariants.{OnGrid, Doubled}
 use Rattle.asked.specs.Words.{grid_word, half_word}
-
--- a point, where both fields are numbers (item 10)
-abbrev pub point_from : Option ℤ → Option ℤ → Option Point
-point_from (Some x) (Some y) = Some (record { x = x; y = y })
-point_from (Some x) None = None
-point_from None y = None
-
-unfoldable pub point_of : List ℕ → List ℕ → Option Point
-point_of x y = point_from (number_of x) (number_of y)
 
 -- the word says on which grid
 unfoldable pub word_query : List ℕ → List ℕ → List ℕ → Option Spot

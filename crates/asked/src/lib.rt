@@ -3,21 +3,11 @@
 
 ghost use Rattle.std.specs.Prelude.{◌≡◌};
 ghost use Rattle.fields.specs.Pieces.{split};
-ghost use Rattle.asked.specs.Queries.{point_of, word_query, query_of, asks};
+ghost use Rattle.asked.specs.Queries.{word_query, query_of, asks};
 
-use fields::{read_number, split_once};
-use geom::Point;
+use fields::split_once;
+use lines::records::read_point;
 use rules::Spot;
-
-// The point with these two coordinates, where both are numbers.
-#[tactic(auto, unfolding(crate::specs::Queries::point_of))]
-fn read_point(first: &[u8], second: &[u8]) -> Option<Point>
-    ensures { result ≡ point_of first.now second.now }
-{
-    let x = read_number(first)?;
-    let y = read_number(second)?;
-    Some(Point { x, y })
-}
 
 // The word says on which grid the point is.
 #[tactic(auto, unfolding(crate::specs::Queries::word_query))]

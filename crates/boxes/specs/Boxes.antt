@@ -1,8 +1,9 @@
 -- Boxes of edges and of parts of the edge list (document 01, item 9 and "The correction book").
-use Rattle.std.specs.Prelude.{◌≡◌, true, ◌⊎◌, List, [], ◌∷◌, ℕ, zero, suc, ◌+◌, ◌^◌, ◌≤◌, ◌<◌, ℤ, pos, nat_abs, length, get_or}
+use Rattle.std.specs.Prelude.{◌≡◌, true, ◌⊎◌, List, [], ℕ, zero, suc, ◌+◌, ◌^◌, ◌≤◌, ◌<◌, ℤ, nat_abs, length, get_or}
 use Rattle.geom.specs.declared.Point.{Point}
 use Rattle.geom.specs.declared.Rect.{Rect}
-use Rattle.geom.specs.Boxes.{rect_of, union_of, empty_rect, holds_point}
+use Rattle.geom.specs.Boxes.{rect_of, union_of, empty_rect, holds_point, rect_in}
+pub use Rattle.geom.specs.Boxes.{row_of}
 use Rattle.boxes.specs.Rings.{edge_of}
 
 -- the smallest box round edge e
@@ -15,16 +16,9 @@ box_of corners rings edges f zero = empty_rect
 box_of corners rings edges f (suc zero) = edge_box corners rings (get_or edges f 0)
 box_of corners rings edges f (suc (suc m)) = union_of (box_of corners rings edges f (suc m)) (edge_box corners rings (get_or edges (f + suc m) 0))
 
--- a row of the box table as a box, and a box as a row
+-- the box at place p of the box table
 abbrev pub rect_at : List (List ℤ) → ℕ → Rect
-rect_at boxes p =
-    record {
-      min = record { x = get_or (get_or boxes p []) 0 (pos 0); y = get_or (get_or boxes p []) 1 (pos 0) };
-      max = record { x = get_or (get_or boxes p []) 2 (pos 0); y = get_or (get_or boxes p []) 3 (pos 0) };
-    }
-
-abbrev pub row_of : Rect → List ℤ
-row_of r = r.min.x ∷ r.min.y ∷ r.max.x ∷ r.max.y ∷ []
+rect_at boxes p = rect_in (get_or boxes p [])
 
 -- the m places from f on stand in the edge list, and each names one of n edges
 pub record Names (n : ℕ) (edges : List ℕ) (f m : ℕ) : Type 0 where

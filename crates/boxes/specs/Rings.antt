@@ -1,5 +1,5 @@
 -- Edges by their number, over the ring table of a prepared plan: where each ring ends (document 01, item 1).
-use Rattle.std.specs.Prelude.{◌≡◌, Bool, cond, true, ◌&&◌, List, [], ◌∷◌, ℕ, zero, suc, ◌+◌, ◌*◌, ◌≤◌, ◌<◌, leb, ltb, ℤ, length, get_or}
+use Rattle.std.specs.Prelude.{◌≡◌, Bool, cond, true, ◌&&◌, List, [], ◌∷◌, ℕ, zero, suc, ◌+◌, ◌-◌, ◌*◌, ◌≤◌, ◌<◌, leb, ltb, ℤ, length, get_or}
 use Rattle.geom.specs.Range.{in_range}
 use Rattle.rules.specs.Edges.{Edge}
 use Rattle.rules.specs.Plans.{corner_at}
@@ -12,6 +12,10 @@ start_of rings (suc r) = get_or rings r 0
 -- in a ring from `start` to `end`: the next corner, or the first after the last
 abbrev pub next_in : ℕ → ℕ → ℕ → ℕ
 next_in start end e = cond (ltb (e + 1) end) (e + 1) start
+
+-- and the corner before: the one before, or the last before the first
+abbrev pub previous_in : ℕ → ℕ → ℕ → ℕ
+previous_in start end e = cond (ltb start e) (e - 1) (end - 1)
 
 -- the corner after corner e in its ring, which is the first to end after e; a corner of no ring stays
 unfoldable pub next_from : ℕ → List ℕ → ℕ → ℕ

@@ -3,10 +3,10 @@
 #![tactic(auto)]
 
 ghost use Rattle.std.specs.Prelude.{◌≡◌, ◌-◌, ◌*◌, ◌<◌, ◌≤◌, length, get_or, set};
-ghost use Rattle.boxes.specs.Rings.{start_of, next_in, in_ring, RingAt, RingEnds};
+ghost use Rattle.boxes.specs.Rings.{start_of, next_in, previous_in, in_ring, RingAt, RingEnds};
 ghost use Rattle.boxes.specs.Boxes.{edge_box, box_of, rect_at, row_of, Names};
 
-use geom::{Point, Rect};
+use geom::Rect;
 use plans::corner_at;
 
 /// The ring of corner e, by bisection in the ends of the first `count` rings. It holds e on any table; on a rising one no other does.
@@ -84,6 +84,18 @@ pub fn next_corner(rings: &[usize], r: usize, e: usize) -> usize
     }
 }
 
+/// The corner before corner e of ring r, at which the edge that ends at e starts: the one before, or the ring's last before its first.
+pub fn previous_corner(rings: &[usize], r: usize, e: usize) -> usize
+    requires { (r < length rings.now) × (e < get_or rings.now r 0) }
+    ensures { result ≡ previous_in (start_of rings.now r) (get_or rings.now r 0) e }
+{
+    if start_of(rings, r) < e {
+        e - 1
+    } else {
+        rings[r] - 1
+    }
+}
+
 /// The smallest box round edge e of ring r.
 pub fn edge_box(
     corners: &[i64],
@@ -137,11 +149,7 @@ pub fn rect_at(boxes: &[[i64; 4]], p: usize) -> Rect
     requires { p < length boxes.now }
     ensures { result ≡ rect_at boxes.now p }
 {
-    let [left, low, right, high] = boxes[p];
-    Rect {
-        min: Point { x: left, y: low },
-        max: Point { x: right, y: high },
-    }
+    Rect::from(boxes[p])
 }
 
 /// Stores a box at place p of the box table.
@@ -149,5 +157,5 @@ pub fn put_rect(boxes: &mut [[i64; 4]], p: usize, r: Rect)
     requires { p < length boxes.old }
     ensures { boxes.new ≡ set boxes.old p (row_of r) }
 {
-    boxes[p] = [r.min.x, r.min.y, r.max.x, r.max.y];
+    boxes[p] = r.into();
 }

@@ -17,7 +17,7 @@ use Rattle.rules.specs.declared.Location.TheVariants.{Outside}
 use Rattle.rules.specs.declared.Refusal.{Refusal}
 use Rattle.rules.specs.declared.Refusal.TheVariants.{TextTooLong, BadLine, Uneven, TooMany, NoSuchCorner, PlaceOutOfRange, TableTooShort, PlanOutOfRange, UndoFull, NothingToUndo, Unsound, OffGrammar, Unclosed}
 use Rattle.rules.specs.declared.State.{State}
-use Rattle.rules.specs.Numbers.{refusal_number, reply_number}
+use Rattle.rules.specs.Numbers.{kind_named, refusal_number, reply_number}
 use Rattle.rules.specs.Plans.{Plan, plan_reply, plan_half_reply}
 use Rattle.rules.specs.Tables.{plan_of}
 use Rattle.prepare.specs.Tables as PreparingTables
@@ -42,7 +42,7 @@ use Rattle.replay.proofs.Ending.{followed}
 use Rattle.replay.proofs.LookUps.{locate_is_step, locate_doubled_is_step}
 use Rattle.replay.proofs.Starting.{fresh, first_held, first_size}
 use Rattle.states.specs.declared.StateNumbers.{StateNumbers}
-use Rattle.states.specs.States.{kind_named, mark_number, state_named, state_numbers, Replied}
+use Rattle.states.specs.States.{mark_number, state_named, state_numbers, Replied}
 use Rattle.capi.specs.declared.exports.PrepareAnswer.{PrepareAnswer}
 use Rattle.capi.specs.declared.moves.CorrectionAnswer.{CorrectionAnswer}
 use Rattle.capi.specs.Exports.{PrepareSays, prepare_numbers, correction_numbers, CorrectionSays, Written}
@@ -220,7 +220,7 @@ module _ (coordinates : List ℤ) (lengths counts : List ℕ) (before first : Ta
     pub kind : Kind
     pub named : kind_named number ≡ Some kind
     pub state : State
-    pub nodes : ℕ
+    pub nodes : Option ℕ
     pub prepared : PreparingTables.Prepared (plan_of_kind kind) before first (ready_with state nodes)
     pub numbers : answer.state ≡ state_numbers state
 

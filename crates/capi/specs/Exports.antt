@@ -23,7 +23,7 @@ use Rattle.capi.specs.declared.exports.FirstAnswer.{FirstAnswer}
 use Rattle.capi.specs.declared.moves.CorrectionAnswer.{CorrectionAnswer}
 use Rattle.states.specs.States.{state_named, state_numbers, Replied}
 use Rattle.rules.specs.Answering.{Verdict, Accepted}
-use Rattle.prepare.specs.Answers.{Preparing}
+use Rattle.prepare.specs.Answers.{Preparing, nodes_number}
 
 -- a look-up through the boxes, of a point that is in range or not, and the place that the plan in the tables gives it
 abbrev pub LooksUp : (Point → Bool) → (Plan → Point → Location) → StateNumbers → List ℤ → List ℕ → List ℕ → List (List ℤ) → List (List ℕ) → List ℕ → Point → ℤ → Type 0
@@ -64,7 +64,7 @@ no_state = record { kind = 0; out_of_range = 0; corners = 0; rings = 0; polygons
 
 -- what preparing answers in numbers
 abbrev pub prepare_numbers : Preparing → PrepareAnswer
-prepare_numbers (Ok ready) = record { refusal = 0; table = 0; nodes = ready.nodes; state = state_numbers ready.state }
+prepare_numbers (Ok ready) = record { refusal = 0; table = 0; nodes = nodes_number ready.nodes; state = state_numbers ready.state }
 prepare_numbers (Err refusal) = record { refusal = refusal_number refusal; table = refusal_detail refusal; nodes = 0; state = no_state }
 
 -- by what is promised of a plan of this kind; 15, and the tables as they were, where the number names no kind

@@ -1,27 +1,31 @@
 // The exports for a server that keeps prepared plans: tables as slices that it lends, a state as six numbers, answers as numbers
 // (document 01, items 6 to 8). None asks anything of its caller; tables that are lent to a look-up are only read.
-ghost use Rattle.std.specs.Prelude.{◌≡◌, Err};
+ghost use Rattle.std.specs.Prelude.{◌≡◌};
 ghost use Rattle.geom.specs.Range.{in_range, in_doubled_range};
-ghost use Rattle.rules.specs.declared.Refusal.TheVariants.{Unsound};
-ghost use Rattle.rules.specs.Numbers.{reply_number};
+ghost use Rattle.rules.specs.Numbers.{kind_named};
 ghost use Rattle.rules.specs.Plans.{plan_reply, plan_half_reply};
-ghost use Rattle.prepare.specs.Tables.{Tables, Prepared};
+ghost use Rattle.rules.specs.Spots.{spot_in_range, spot_reply};
+ghost use Rattle.rules.specs.Tables.{plan_of};
+ghost use Rattle.query.specs.Calls.{LookedUp};
+ghost use Rattle.prepared.specs.Calls.{SpotLooked};
+ghost use Rattle.prepare.specs.Tables.{Tables as SixTables, Prepared};
 ghost use Rattle.prepared.specs.Firsts.{points_verdict, FirstSays};
-ghost use Rattle.states.specs.States.{kind_named, state_named};
-ghost use Rattle.capi.specs.Exports.{no_state, first_numbers, prepare_numbers, unnamed_first, LooksUp, LooksUpByRings, Listed, PrepareSays};
+ghost use Rattle.states.specs.States.{state_named, Replied};
+ghost use Rattle.capi.specs.Exports.{first_numbers, prepare_numbers, unnamed_first, LooksUp, LooksUpByRings, Listed, PrepareSays};
 
 use geom::Point;
+use plans::Plan;
 use prepare::{Ready, prepare};
 use prepared::first::{first_not_outside, judge_points};
-use prepared::locate::locate;
+use prepared::locate::{Tables, locate};
 use query::locate_by_rings;
-use rules::{Refusal, Spot, refusal_detail, refusal_number, reply_number};
-use states::{StateNumbers, kind_of, numbers_of, state_of};
+use rules::{Kind, Refusal, Spot, State, reply_number};
+use states::StateNumbers;
 
 /// What preparing answers: the refusal number or 0, the table that refusal 11 names or 0, the number of nodes, and the state (zeros
 /// where it is refused).
 #[repr(C)]
-#[derive(Clone, Copy)]
+#[derive(Clone, Copy, Default)]
 pub struct PrepareAnswer {
     pub refusal: usize,
     pub table: usize,
@@ -31,32 +35,11 @@ pub struct PrepareAnswer {
 
 /// What a list of points is answered: the refusal number or 0, 1 where a point is not outside, and the place of the first.
 #[repr(C)]
-#[derive(Clone, Copy)]
+#[derive(Clone, Copy, Default)]
 pub struct FirstAnswer {
     pub refusal: usize,
     pub found: usize,
     pub place: usize,
-}
-
-// Minus 15.
-fn unsound() -> i64
-    ensures { result ≡ reply_number (Err Unsound) }
-{
-    reply_number(Err(Refusal::Unsound))
-}
-
-// The numbers of no state.
-fn no_state() -> StateNumbers
-    ensures { result ≡ no_state }
-{
-    StateNumbers {
-        kind: 0,
-        out_of_range: 0,
-        corners: 0,
-        rings: 0,
-        polygons: 0,
-        undo_depth: 0,
-    }
 }
 
 // What preparing answers, in numbers.
@@ -68,14 +51,13 @@ impl From<Result<Ready, Refusal>> for PrepareAnswer {
             Ok(ready) => PrepareAnswer {
                 refusal: 0,
                 table: 0,
-                nodes: ready.nodes,
-                state: numbers_of(ready.state),
+                nodes: ready.nodes.unwrap_or(0),
+                state: StateNumbers::from(ready.state),
             },
             Err(refusal) => PrepareAnswer {
-                refusal: refusal_number(refusal),
-                table: refusal_detail(refusal),
-                nodes: 0,
-                state: no_state(),
+                refusal: usize::from(refusal),
+                table: refusal.detail(),
+                ..PrepareAnswer::default()
             },
         }
     }
@@ -92,15 +74,10 @@ impl From<Result<Option<usize>, Refusal>> for FirstAnswer {
                 found: 1,
                 place,
             },
-            Ok(None) => FirstAnswer {
-                refusal: 0,
-                found: 0,
-                place: 0,
-            },
+            Ok(None) => FirstAnswer::default(),
             Err(refusal) => FirstAnswer {
-                refusal: refusal_number(refusal),
-                found: 0,
-                place: 0,
+                refusal: usize::from(refusal),
+                ..FirstAnswer::default()
             },
         }
     }
@@ -122,22 +99,46 @@ pub extern "C" fn findspot_prepare(
     parts: &mut [[usize; 3]],
     edges: &mut [usize],
 ) -> PrepareAnswer
-    ensures { PrepareSays (kind_named kind) (λ k preparing. Prepared (record { kind = k; coordinates = coordinates.now; lengths = lengths.now; counts = counts.now }) (record { corners = corners.old; rings = rings.old; polygons = polygons.old; boxes = boxes.old; parts = parts.old; edges = edges.old }) (record { corners = corners.new; rings = rings.new; polygons = polygons.new; boxes = boxes.new; parts = parts.new; edges = edges.new }) preparing) (◌≡◌ {A = Tables} (record { corners = corners.new; rings = rings.new; polygons = polygons.new; boxes = boxes.new; parts = parts.new; edges = edges.new }) (record { corners = corners.old; rings = rings.old; polygons = polygons.old; boxes = boxes.old; parts = parts.old; edges = edges.old })) result }
+    ensures { PrepareSays (kind_named kind) (λ k preparing. Prepared (record { kind = k; coordinates = coordinates.now; lengths = lengths.now; counts = counts.now }) (record { corners = corners.old; rings = rings.old; polygons = polygons.old; boxes = boxes.old; parts = parts.old; edges = edges.old }) (record { corners = corners.new; rings = rings.new; polygons = polygons.new; boxes = boxes.new; parts = parts.new; edges = edges.new }) preparing) (◌≡◌ {A = SixTables} (record { corners = corners.new; rings = rings.new; polygons = polygons.new; boxes = boxes.new; parts = parts.new; edges = edges.new }) (record { corners = corners.old; rings = rings.old; polygons = polygons.old; boxes = boxes.old; parts = parts.old; edges = edges.old })) result }
 {
-    match kind_of(kind) {
-        None => PrepareAnswer::from(Err(Refusal::Unsound)),
-        Some(known) => PrepareAnswer::from(prepare(
-            known,
-            coordinates,
-            lengths,
-            counts,
-            corners,
-            rings,
-            polygons,
-            boxes,
-            parts,
-            edges,
-        )),
+    let Ok(known) = Kind::try_from(kind) else {
+        return PrepareAnswer::from(Err(Refusal::Unsound));
+    };
+    let plan = Plan {
+        kind: known,
+        coordinates,
+        lengths,
+        counts,
+    };
+    PrepareAnswer::from(prepare(&plan, corners, rings, polygons, boxes, parts, edges))
+}
+
+// Where a spot lies, through the boxes, as a number: minus 15 where the numbers name no state. It is a part of each export in the
+// machine's code, which then knows the spot's grid: ring by ring a function of its own takes up to half more time on the half-grid.
+#[inline(always)]
+fn look_up(numbers: StateNumbers, tables: &Tables<'_>, spot: Spot) -> i64
+    ensures { Replied (state_named numbers) (λ s reply. SpotLooked s tables.now spot reply) result }
+{
+    match State::try_from(numbers) {
+        Ok(state) => reply_number(locate(state, tables, spot)),
+        Err(_) => reply_number(Err(Refusal::Unsound)),
+    }
+}
+
+// The same ring by ring.
+#[inline(always)]
+fn look_up_by_rings(
+    numbers: StateNumbers,
+    corners: &[i64],
+    rings: &[usize],
+    polygons: &[usize],
+    spot: Spot,
+) -> i64
+    ensures { Replied (state_named numbers) (λ s reply. LookedUp s corners.now rings.now polygons.now (spot_in_range spot) (spot_reply (plan_of s corners.now rings.now polygons.now) spot) reply) result }
+{
+    match State::try_from(numbers) {
+        Ok(state) => reply_number(locate_by_rings(state, corners, rings, polygons, spot)),
+        Err(_) => reply_number(Err(Refusal::Unsound)),
     }
 }
 
@@ -157,19 +158,16 @@ pub extern "C" fn findspot_locate(
 ) -> i64
     ensures { LooksUp in_range plan_reply state corners.now rings.now polygons.now boxes.now parts.now edges.now (record { x = x; y = y }) result }
 {
-    match state_of(state) {
-        None => unsound(),
-        Some(known) => reply_number(locate(
-            known,
-            corners,
-            rings,
-            polygons,
-            boxes,
-            parts,
-            edges,
-            Spot::OnGrid(Point { x, y }),
-        )),
-    }
+    // By name, as wherever tables or plans are put together: unnamed in a call, rings, polygons and edges could be exchanged unseen.
+    let tables = Tables {
+        corners,
+        rings,
+        polygons,
+        boxes,
+        parts,
+        edges,
+    };
+    look_up(state, &tables, Spot::OnGrid(Point { x, y }))
 }
 
 /// Where the point with these doubled coordinates lies on the half-grid, through the boxes; numbers as `findspot_locate`.
@@ -187,19 +185,15 @@ pub extern "C" fn findspot_locate_doubled(
 ) -> i64
     ensures { LooksUp in_doubled_range plan_half_reply state corners.now rings.now polygons.now boxes.now parts.now edges.now (record { x = x; y = y }) result }
 {
-    match state_of(state) {
-        None => unsound(),
-        Some(known) => reply_number(locate(
-            known,
-            corners,
-            rings,
-            polygons,
-            boxes,
-            parts,
-            edges,
-            Spot::Doubled(Point { x, y }),
-        )),
-    }
+    let tables = Tables {
+        corners,
+        rings,
+        polygons,
+        boxes,
+        parts,
+        edges,
+    };
+    look_up(state, &tables, Spot::Doubled(Point { x, y }))
 }
 
 /// Where (x, y) lies, ring by ring; numbers as `findspot_locate`.
@@ -214,16 +208,8 @@ pub extern "C" fn findspot_locate_by_rings(
 ) -> i64
     ensures { LooksUpByRings in_range plan_reply state corners.now rings.now polygons.now (record { x = x; y = y }) result }
 {
-    match state_of(state) {
-        None => unsound(),
-        Some(known) => reply_number(locate_by_rings(
-            known,
-            corners,
-            rings,
-            polygons,
-            Spot::OnGrid(Point { x, y }),
-        )),
-    }
+    let spot = Spot::OnGrid(Point { x, y });
+    look_up_by_rings(state, corners, rings, polygons, spot)
 }
 
 /// Where the point with these doubled coordinates lies on the half-grid, ring by ring; numbers as `findspot_locate`.
@@ -238,16 +224,8 @@ pub extern "C" fn findspot_locate_doubled_by_rings(
 ) -> i64
     ensures { LooksUpByRings in_doubled_range plan_half_reply state corners.now rings.now polygons.now (record { x = x; y = y }) result }
 {
-    match state_of(state) {
-        None => unsound(),
-        Some(known) => reply_number(locate_by_rings(
-            known,
-            corners,
-            rings,
-            polygons,
-            Spot::Doubled(Point { x, y }),
-        )),
-    }
+    let spot = Spot::Doubled(Point { x, y });
+    look_up_by_rings(state, corners, rings, polygons, spot)
 }
 
 // What a list of points is answered where the numbers name no state: its own 4 or 3, else 15.
@@ -273,10 +251,16 @@ pub extern "C" fn findspot_first_not_outside(
 ) -> FirstAnswer
     ensures { Listed (state_named state) points.now (λ s first. FirstSays s corners.now rings.now polygons.now boxes.now parts.now edges.now points.now first) result }
 {
-    match state_of(state) {
-        None => FirstAnswer::from(unnamed_first(points)),
-        Some(known) => FirstAnswer::from(first_not_outside(
-            known, corners, rings, polygons, boxes, parts, edges, points,
-        )),
-    }
+    let Ok(known) = State::try_from(state) else {
+        return FirstAnswer::from(unnamed_first(points));
+    };
+    let tables = Tables {
+        corners,
+        rings,
+        polygons,
+        boxes,
+        parts,
+        edges,
+    };
+    FirstAnswer::from(first_not_outside(known, &tables, points))
 }

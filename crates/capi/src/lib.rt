@@ -13,7 +13,7 @@ pub mod wellknown;
 use geom::Point;
 use query::locate;
 use rules::{Reply, Spot, reply_number};
-use text::read_plan;
+use text::{first_plan, read_plan};
 
 // Where p lies in the plan of a text, read into tables that have room for any text's plan.
 fn locate_in(
@@ -27,13 +27,8 @@ fn locate_in(
     ensures { result ≡ text_reply text.now p }
 {
     let size = read_plan(text, corners, lengths, counts)?;
-    locate(
-        size.kind,
-        &corners[..2 * size.corners],
-        &lengths[..size.rings],
-        &counts[..size.polygons],
-        Spot::OnGrid(p),
-    )
+    let plan = first_plan(size, corners, lengths, counts);
+    locate(&plan, Spot::OnGrid(p))
 }
 
 /// Where the point (x, y) lies in the plan that a text gives, ring by ring.

@@ -1,12 +1,13 @@
 // Corrections for a server that keeps prepared plans: a corner moved and a move undone over tables that it lends (document 01, item 9).
 ghost use Rattle.std.specs.Prelude.{◌≡◌};
+ghost use Rattle.rules.specs.Numbers.{refusal_number};
 ghost use Rattle.model.specs.declared.Call.TheVariants.{Move, Undo};
 ghost use Rattle.capi.specs.Exports.{correction_numbers, Corrects};
 
 use corrections::{move_corner, undo};
 use geom::Point;
-use rules::{Refusal, State, refusal_number};
-use states::{StateNumbers, numbers_of, state_of};
+use rules::{Refusal, State};
+use states::StateNumbers;
 
 /// What a correction answers: 0 where it is accepted, or the refusal number; and the state that goes with the tables from now on, which
 /// a refusal leaves as it was.
@@ -17,19 +18,28 @@ pub struct CorrectionAnswer {
     pub state: StateNumbers,
 }
 
-// What a correction from this state answers, in numbers.
-fn correction_answer(state: State, correction: Result<State, Refusal>) -> CorrectionAnswer
-    ensures { result ≡ correction_numbers state correction }
-{
-    match correction {
-        Ok(next) => CorrectionAnswer {
-            refusal: 0,
-            state: numbers_of(next),
-        },
-        Err(refusal) => CorrectionAnswer {
-            refusal: refusal_number(refusal),
-            state: numbers_of(state),
-        },
+impl CorrectionAnswer {
+    // What a refused correction answers: its state stays as it was.
+    fn refused(refusal: Refusal, state: StateNumbers) -> CorrectionAnswer
+        ensures { result ≡ record { refusal = refusal_number refusal; state = state } }
+    {
+        CorrectionAnswer {
+            refusal: usize::from(refusal),
+            state,
+        }
+    }
+
+    // What a correction from this state answers, in numbers.
+    fn new(state: State, correction: Result<State, Refusal>) -> CorrectionAnswer
+        ensures { result ≡ correction_numbers state correction }
+    {
+        match correction {
+            Ok(next) => CorrectionAnswer {
+                refusal: 0,
+                state: StateNumbers::from(next),
+            },
+            Err(refusal) => CorrectionAnswer::refused(refusal, StateNumbers::from(state)),
+        }
     }
 }
 
@@ -51,26 +61,14 @@ pub extern "C" fn findspot_move(
 ) -> CorrectionAnswer
     ensures { Corrects (Move corner (record { x = x; y = y })) state corners.old rings.now boxes.old parts.now edges.now undo.old corners.new boxes.new undo.new result }
 {
-    match state_of(state) {
-        None => CorrectionAnswer {
-            refusal: refusal_number(Refusal::Unsound),
-            state,
-        },
-        Some(known) => correction_answer(
-            known,
-            move_corner(
-                known,
-                corners,
-                rings,
-                boxes,
-                parts,
-                edges,
-                undo,
-                corner,
-                Point { x, y },
-            ),
-        ),
-    }
+    let Ok(known) = State::try_from(state) else {
+        return CorrectionAnswer::refused(Refusal::Unsound, state);
+    };
+    let place = Point { x, y };
+    let correction = move_corner(
+        known, corners, rings, boxes, parts, edges, undo, corner, place,
+    );
+    CorrectionAnswer::new(known, correction)
 }
 
 /// Takes back the latest move: `corrections::undo` in numbers.
@@ -88,14 +86,9 @@ pub extern "C" fn findspot_undo(
 ) -> CorrectionAnswer
     ensures { Corrects Undo state corners.old rings.now boxes.old parts.now edges.now records.now corners.new boxes.new records.now result }
 {
-    match state_of(state) {
-        None => CorrectionAnswer {
-            refusal: refusal_number(Refusal::Unsound),
-            state,
-        },
-        Some(known) => correction_answer(
-            known,
-            undo(known, corners, rings, boxes, parts, edges, records),
-        ),
-    }
+    let Ok(known) = State::try_from(state) else {
+        return CorrectionAnswer::refused(Refusal::Unsound, state);
+    };
+    let correction = undo(known, corners, rings, boxes, parts, edges, records);
+    CorrectionAnswer::new(known, correction)
 }

@@ -27,12 +27,12 @@ pub extern "C" fn findspot_read_plan(
     ReadingNumbers::from(read_plan(text, corners, lengths, counts))
 }
 
-/// Where line k of a text stands, counted from 1: `text::line_span`. Nothing is refused.
+/// Where line k of a text stands, counted from 1: `text::line_span`, with both numbers 0 where there is no line k. Nothing is refused.
 #[unsafe(no_mangle)]
 pub extern "C" fn findspot_line(text: &[u8], k: usize) -> Span
     ensures { LineSpan text.now k result }
 {
-    line_span(text, k)
+    line_span(text, k).unwrap_or_default()
 }
 
 /// N(n), the rows that the tables of boxes and of parts need for a plan of n corners, for any n: `index::count::node_count`. Nothing is refused.

@@ -1,13 +1,14 @@
 // Well-Known Text for a server: a text read into tables that it lends, and a plan written into an output that it lends (document 02, R-1).
 ghost use Rattle.std.specs.Prelude.{◌≡◌, Result};
-ghost use Rattle.states.specs.States.{kind_named};
+ghost use Rattle.rules.specs.Numbers.{kind_named};
 ghost use Rattle.wkt.specs.Numbers.{read_numbers};
 ghost use Rattle.wkt.specs.Readings.{WktRead};
 ghost use Rattle.capi.specs.WellKnown.{WriteSays};
 ghost use Rattle.lines.specs.declared.Size.{Size};
 ghost use Rattle.rules.specs.declared.Refusal.{Refusal};
 
-use states::kind_of;
+use plans::Plan;
+use rules::Kind;
 use wkt::numbers::{ReadNumbers, WriteNumbers};
 use wkt::read::read_wkt;
 use wkt::write::{unnamed_writing, write_wkt};
@@ -41,8 +42,14 @@ pub extern "C" fn findspot_write_wkt(
 ) -> WriteNumbers
     ensures { WriteSays (kind_named kind) coordinates.now lengths.now counts.now output.old output.new result }
 {
-    match kind_of(kind) {
-        None => WriteNumbers::from(unnamed_writing(coordinates, lengths, counts)),
-        Some(known) => WriteNumbers::from(write_wkt(known, coordinates, lengths, counts, output)),
-    }
+    let Ok(known) = Kind::try_from(kind) else {
+        return WriteNumbers::from(unnamed_writing(coordinates, lengths, counts));
+    };
+    let plan = Plan {
+        kind: known,
+        coordinates,
+        lengths,
+        counts,
+    };
+    WriteNumbers::from(write_wkt(&plan, output))
 }

@@ -8,6 +8,10 @@ use Rattle.model.specs.Entries.{entry_in}
 use Rattle.model.specs.Prepared.{UndoSound}
 use Rattle.corrections.specs.declared.records.Record.{Record}
 
+-- a row of the undo table as a record
+abbrev pub record_in : List ℤ → Record
+record_in row = record { corner = (entry_in row).corner; place = (entry_in row).place }
+
 -- the latest record names corner i, one of the plan's, and a place in range
 pub record LatestIs (state : State) (undo : List (List ℤ)) (i : ℕ) (place : Point) : Type 0 where
   pub reach : state.undo_depth ≤ length undo

@@ -11,7 +11,7 @@ use geom::{MAX_DOUBLED, Rect};
 // How many edge numbers there are: 2^20.
 const NUMBERS: usize = 1 << 20;
 
-/// The axis along which a part is cut.
+/// The axis along which a part is cut: a value and no closure, since contracts name it (`CutRule`).
 #[derive(Clone, Copy, PartialEq, Eq)]
 pub enum Axis {
     /// Left and right parts, by x.

@@ -39,7 +39,8 @@ struct Scan {
     reads: usize,
 }
 
-// The least and the greatest of the numbers at the places from lo to hi, of which there is one. Each number is counted when it is read.
+// The least and the greatest of the numbers at the places from lo to hi, of which there is one. Each number is counted when it is read and
+// no length is taken for the count: so it says what the code reads (docs/DECISIONS.md).
 fn span_of(values: &[usize], lo: usize, hi: usize) -> Scan
     requires { (lo < hi) × (hi ≤ length values.now) }
     ensures { SpansRead values.now lo hi result.span.least result.span.greatest result.reads }

@@ -8,11 +8,8 @@ use std::io::Read;
 fn read_some<R: Read>(source: &mut R, part: &mut [u8]) -> io::Result<Option<usize>>
     ensures { Came (R.remaining source.old) (R.remaining source.new) part.new result }
 {
-    match source.read(part) {
-        Ok(0) => Ok(None),
-        Ok(count) => Ok(Some(count)),
-        Err(error) => Err(error),
-    }
+    let count = source.read(part)?;
+    Ok((0 < count).then_some(count))
 }
 
 /// Reads until the input ends or the buffer is full: the input's bytes, or as many of them as the buffer holds, stand at its start, and this is

@@ -16,6 +16,8 @@ use Rattle.rings.specs.Places.{is_boundary, flipped_by}
 use Rattle.boxes.specs.Rings.{start_of, RingEnds}
 use Rattle.boxes.proofs.Rings.{start_suc}
 use Rattle.fold.specs.declared.Fold.{Fold}
+use Rattle.fold.specs.declared.Fold as Fold
+use Rattle.fold.specs.declared.ListFold.{ListFold}
 use Rattle.fold.specs.Regions.{polygon_place, list_place, touched, odd_inside, region_place}
 use Rattle.fold.specs.Folds.{place_of, Standing, ListFolding, Folding, Fits}
 use Rattle.fold.proofs.Quiet.{starts_rise}
@@ -49,11 +51,11 @@ module _ (places places' : ℕ → Location) (r : ℕ) (same : (k : ℕ) → k <
         let end : get_or ends i 0 ≡ start_of ends (suc i) = sym (start_suc ends i) ∙ ap (start_of ends) (let e : i + 1 ≡ suc i = omega arith in e) in
         ap₂ stronger (list_same i (omega arith) (omega arith)) (polygon_same (start_of ends i) (get_or ends i 0 - start_of ends i) (omega arith))
 
-    list_folding_same : (fold : Fold) → ListFolding places ends count r fold → ListFolding places' ends count r fold
-    list_folding_same fold F =
+    list_folding_same : (list : ListFold) → ListFolding places ends count r list → ListFolding places' ends count r list
+    list_folding_same list F =
         record { opened = F.opened; seen = F.seen; few = F.few; end = F.end; behind = F.behind; low = F.low; clear = λ k l u. sym (same k u) ∙ F.clear k l u; stands = stand F.opened F.few F.stands }
       where
-        stand : (opened : ℕ) → opened ≤ count → Standing places ends F.seen fold opened → Standing places' ends F.seen fold opened
+        stand : (opened : ℕ) → opened ≤ count → Standing places ends F.seen list opened → Standing places' ends F.seen list opened
         stand zero l S = S
         stand (suc i) l C =
             let first : start_of ends i < F.seen = C.first in
@@ -71,10 +73,12 @@ module _ (places places' : ℕ → Location) (r : ℕ) (same : (k : ℕ) → k <
   odd_same (suc n) h = ap₂ flipped_by (odd_same n (omega arith)) (same n (omega arith))
 
   pub folding_same : (kind : Kind) (ends : List ℕ) (n count : ℕ) → Fits kind n count ends → (fold : Fold) → Folding kind places ends count r fold → Folding kind places' ends count r fold
-  folding_same Polygons ends n count R fold F = list_folding_same ends n count R fold F
-  folding_same Tree ends n count R fold F = record { on = F.on ∙ touched_same r (omega arith); odd = F.odd ∙ odd_same r (omega arith) }
+  folding_same Polygons ends n count R (Fold.TheVariants.List list) F = list_folding_same ends n count R list F
+  folding_same Polygons ends n count R (Fold.TheVariants.Tree tree) F = absurd F
+  folding_same Tree ends n count R (Fold.TheVariants.List list) F = absurd F
+  folding_same Tree ends n count R (Fold.TheVariants.Tree tree) F = record { on = F.on ∙ touched_same r (omega arith); odd = F.odd ∙ odd_same r (omega arith) }
 
-pub as_if : (kind : Kind) (places : ℕ → Location) (ends : List ℕ) (n count r : ℕ) → r ≤ n → Fits kind n count ends → (fold : Fold) → Folding kind places ends count r fold → place_of kind fold ≡ region_place kind (up_to places r) ends count n
+pub as_if : (kind : Kind) (places : ℕ → Location) (ends : List ℕ) (n count r : ℕ) → r ≤ n → Fits kind n count ends → (fold : Fold) → Folding kind places ends count r fold → place_of fold ≡ region_place kind (up_to places r) ends count n
 as_if kind places ends n count r l R fold F =
     done kind (up_to places r) ends n count R fold
     (skips kind (up_to places r) ends count r n fold l (λ k a b. after places r k a) (folding_same places (up_to places r) r (before places r) kind ends n count R fold F))

@@ -26,16 +26,16 @@ three a b c (suc (suc k)) = c
 
 -- three steps, one after another
 module _ (kind : Kind) (ends : List ℕ) (count : ℕ) (fits : Fits kind 3 count ends) (a b c : Location) where
-  pub after_three : (r s t : Fold) → Folds kind ends count begun 0 a r → Folds kind ends count r 1 b s → Folds kind ends count s 2 c t → place_of kind t ≡ region_place kind (three a b c) ends count 3
+  pub after_three : (r s t : Fold) → Folds ends count (begun kind) 0 a r → Folds ends count r 1 b s → Folds ends count s 2 c t → place_of t ≡ region_place kind (three a b c) ends count 3
   after_three r s t f g h =
       done kind (three a b c) ends 3 count fits t
-      (h 3 fits (omega arith) (three a b c) (g 3 fits (omega arith) (three a b c) (f 3 fits (omega arith) (three a b c) (begins kind (three a b c) ends count) refl) refl) refl)
+      (h kind 3 fits (omega arith) (three a b c) (g kind 3 fits (omega arith) (three a b c) (f kind 3 fits (omega arith) (three a b c) (begins kind (three a b c) ends count) refl) refl) refl)
 
 -- and the last alone, where the point is outside of the other two
-pub after_last : (kind : Kind) (ends : List ℕ) (count : ℕ) → Fits kind 3 count ends → (c : Location) (t : Fold) → Folds kind ends count begun 2 c t → place_of kind t ≡ region_place kind (three Outside Outside c) ends count 3
+pub after_last : (kind : Kind) (ends : List ℕ) (count : ℕ) → Fits kind 3 count ends → (c : Location) (t : Fold) → Folds ends count (begun kind) 2 c t → place_of t ≡ region_place kind (three Outside Outside c) ends count 3
 after_last kind ends count fits c t h =
     done kind (three Outside Outside c) ends 3 count fits t
-    (met kind (three Outside Outside c) ends 3 count fits 0 begun (begins kind (three Outside Outside c) ends count) 2 (omega arith) (omega arith) quiet c refl t h)
+    (met kind (three Outside Outside c) ends 3 count fits 0 (begun kind) (begins kind (three Outside Outside c) ends count) 2 (omega arith) (omega arith) quiet c refl t h)
   where
     quiet : (k : ℕ) → 0 ≤ k → k < 2 → three Outside Outside c k ≡ Outside
     quiet zero l u = refl
@@ -53,22 +53,22 @@ unfolding ends_from lengths_from total
 together = ends_rise_lem 1 (3 ∷ []) (omega arith) refl
 
 module _ (r s t : Fold) where
-  pub other_polygon : Folds Polygons (1 ∷ 3 ∷ []) 2 begun 0 Inside r → Folds Polygons (1 ∷ 3 ∷ []) 2 r 1 Inside s → Folds Polygons (1 ∷ 3 ∷ []) 2 s 2 Outside t → place_of Polygons t ≡ Inside
+  pub other_polygon : Folds (1 ∷ 3 ∷ []) 2 (begun Polygons) 0 Inside r → Folds (1 ∷ 3 ∷ []) 2 r 1 Inside s → Folds (1 ∷ 3 ∷ []) 2 s 2 Outside t → place_of t ≡ Inside
   unfolding list_place polygon_place start_of
   other_polygon f g h = after_three Polygons (1 ∷ 3 ∷ []) 2 apart Inside Inside Outside r s t f g h
 
-  pub outer_not_met : Folds Polygons (1 ∷ 3 ∷ []) 2 begun 2 Inside t → place_of Polygons t ≡ Outside
+  pub outer_not_met : Folds (1 ∷ 3 ∷ []) 2 (begun Polygons) 2 Inside t → place_of t ≡ Outside
   unfolding list_place polygon_place start_of
   outer_not_met h = after_last Polygons (1 ∷ 3 ∷ []) 2 apart Inside t h
 
-  pub first_hole_decides : Folds Polygons (3 ∷ []) 1 begun 0 Inside r → Folds Polygons (3 ∷ []) 1 r 1 OnBoundary s → Folds Polygons (3 ∷ []) 1 s 2 Inside t → place_of Polygons t ≡ OnBoundary
+  pub first_hole_decides : Folds (3 ∷ []) 1 (begun Polygons) 0 Inside r → Folds (3 ∷ []) 1 r 1 OnBoundary s → Folds (3 ∷ []) 1 s 2 Inside t → place_of t ≡ OnBoundary
   unfolding list_place polygon_place start_of
   first_hole_decides f g h = after_three Polygons (3 ∷ []) 1 together Inside OnBoundary Inside r s t f g h
 
-  pub boundary_kept : (ends : List ℕ) (count : ℕ) → Folds Tree ends count begun 0 OnBoundary r → Folds Tree ends count r 1 Inside s → Folds Tree ends count s 2 Outside t → place_of Tree t ≡ OnBoundary
+  pub boundary_kept : (ends : List ℕ) (count : ℕ) → Folds ends count (begun Tree) 0 OnBoundary r → Folds ends count r 1 Inside s → Folds ends count s 2 Outside t → place_of t ≡ OnBoundary
   unfolding touched odd_inside
   boundary_kept ends count f g h = after_three Tree ends count tt OnBoundary Inside Outside r s t f g h
 
-  pub parity_kept : (ends : List ℕ) (count : ℕ) → Folds Tree ends count begun 0 Inside r → Folds Tree ends count r 1 Inside s → Folds Tree ends count s 2 Inside t → place_of Tree t ≡ Inside
+  pub parity_kept : (ends : List ℕ) (count : ℕ) → Folds ends count (begun Tree) 0 Inside r → Folds ends count r 1 Inside s → Folds ends count s 2 Inside t → place_of t ≡ Inside
   unfolding touched odd_inside
   parity_kept ends count f g h = after_three Tree ends count tt Inside Inside Inside r s t f g h

@@ -200,5 +200,5 @@ module _ (state : State) (corners : List ℤ) (rings polygons : List ℕ) (sound
 
     -- a fold gives it, if the point is outside of every ring that it has not come to
     pub folded : (r : ℕ) → r ≤ state.rings → ((k : ℕ) → r ≤ k → k < state.rings → places k ≡ Outside) → (fold : Fold) → Folding state.kind places polygons state.polygons r fold
-        → place_of state.kind fold ≡ kind_reply (plan_of state corners rings polygons).kind (plan_of state corners rings polygons) p
+        → place_of fold ≡ kind_reply (plan_of state corners rings polygons).kind (plan_of state corners rings polygons) p
     folded r l quiet fold F = rest state.kind places polygons state.rings state.polygons (plan_polygons state corners rings polygons sound) r fold F l quiet ∙ region_is

@@ -3,27 +3,45 @@
 #![tactic(auto)]
 
 ghost use Rattle.std.specs.Prelude.{◌≡◌};
-ghost use Rattle.rules.specs.declared.Kind.TheVariants.{Polygons, Tree};
 ghost use Rattle.rules.specs.declared.Location.TheVariants.{Inside};
 ghost use Rattle.rules.specs.Replies.{within_outer, by_hole};
-ghost use Rattle.fold.specs.Folds.{begun, place_of, with_hole, first_met, opened, with_ring, SpanSays, Folds};
+ghost use Rattle.fold.specs.Folds.{begun, place_of, list_place_of, tree_place_of, with_hole, first_met, with_ring, SpanSays, ListFolds, Folds};
 
 use boxes::{ring_of, start_of};
-use rings::places::{flipped, is_boundary, is_outside, odd_place, stronger, through_hole};
+use rings::places::{flipped, odd_place, stronger, through_hole};
 use rules::{Kind, Location};
 
 /// What is known of a region after some of its rings.
 #[derive(Clone, Copy)]
-pub struct Fold {
-    /// A list: the strongest reply of the polygons before the current one.
+pub enum Fold {
+    List(ListFold),
+    Tree(TreeFold),
+}
+
+/// What is known of a list.
+#[derive(Clone, Copy)]
+pub struct ListFold {
+    /// The strongest reply of the polygons before the open one.
     pub best: Location,
-    /// A list: the current polygon's reply if no further ring of it is met.
-    pub current: Location,
-    /// A list: where the current polygon's rings end.
+    /// The polygon whose rings are being met: `None` before the first ring.
+    pub current: Option<Polygon>,
+}
+
+/// What is known of a polygon.
+#[derive(Clone, Copy)]
+pub struct Polygon {
+    /// Its reply if no further ring of it is met.
+    pub place: Location,
+    /// Where its rings end.
     pub end: usize,
-    /// A tree: whether the point is inside an odd number of rings.
+}
+
+/// What is known of a tree.
+#[derive(Clone, Copy)]
+pub struct TreeFold {
+    /// Whether the point is inside an odd number of rings.
     pub odd: bool,
-    /// A tree: whether the point is on the boundary of a ring.
+    /// Whether it is on the boundary of a ring.
     pub on: bool,
 }
 
@@ -35,15 +53,18 @@ pub(crate) struct Span {
 }
 
 /// Before the first ring.
-pub fn begin() -> Fold
-    ensures { result ≡ begun }
+pub fn begin(kind: Kind) -> Fold
+    ensures { result ≡ begun kind }
 {
-    Fold {
-        best: Location::Outside,
-        current: Location::Outside,
-        end: 0,
-        odd: false,
-        on: false,
+    match kind {
+        Kind::Polygons => Fold::List(ListFold {
+            best: Location::Outside,
+            current: None,
+        }),
+        Kind::Tree => Fold::Tree(TreeFold {
+            odd: false,
+            on: false,
+        }),
     }
 }
 
@@ -72,13 +93,13 @@ fn after_hole(current: Location, hole: Location) -> Location
     }
 }
 
-// One more hole of the current polygon.
-fn with_hole(fold: Fold, place: Location) -> Fold
-    ensures { result ≡ with_hole fold place }
+// One more hole of the open polygon.
+fn with_hole(polygon: Polygon, hole: Location) -> Polygon
+    ensures { result ≡ with_hole polygon hole }
 {
-    Fold {
-        current: after_hole(fold.current, place),
-        ..fold
+    Polygon {
+        place: after_hole(polygon.place, hole),
+        ..polygon
     }
 }
 
@@ -93,88 +114,88 @@ fn first_met(ring: usize, start: usize, place: Location) -> Location
     }
 }
 
-// The current polygon is done, and another one is opened by the first of its rings that is met.
-fn open_polygon(fold: Fold, start: usize, end: usize, ring: usize, place: Location) -> Fold
-    ensures { result ≡ opened fold start end ring place }
+// The strongest of the polygons before the open one and of that one.
+fn list_place(list: ListFold) -> Location
+    ensures { result ≡ list_place_of list }
 {
-    Fold {
-        best: list_place(fold),
-        current: first_met(ring, start, place),
-        end,
-        ..fold
+    match list.current {
+        Some(polygon) => stronger(list.best, polygon.place),
+        None => list.best,
     }
 }
 
-// One more ring of a list.
-fn fold_list(polygons: &[usize], count: usize, fold: Fold, ring: usize, place: Location) -> Fold
-    ensures { Folds Polygons polygons.now count fold ring place result }
+// One more ring of a list: a hole of the open polygon, or the first ring that is met of another one.
+fn fold_list(
+    polygons: &[usize],
+    count: usize,
+    list: ListFold,
+    ring: usize,
+    place: Location,
+) -> ListFold
+    ensures { ListFolds polygons.now count list ring place result }
 {
-    if is_outside(place) {
-        return fold;
+    if place == Location::Outside {
+        return list;
     }
-    if ring < fold.end {
-        return with_hole(fold, place);
+    if let Some(polygon) = list.current {
+        if ring < polygon.end {
+            return ListFold {
+                current: Some(with_hole(polygon, place)),
+                ..list
+            };
+        }
     }
     let Some(Span { start, end }) = span_of(polygons, count, ring) else {
-        return fold;
+        return list;
     };
-    open_polygon(fold, start, end, ring, place)
+    ListFold {
+        best: list_place(list),
+        current: Some(Polygon {
+            place: first_met(ring, start, place),
+            end,
+        }),
+    }
 }
 
 // One more ring of a tree.
-fn fold_tree(fold: Fold, place: Location) -> Fold
-    ensures { result ≡ with_ring fold place }
+fn fold_tree(tree: TreeFold, place: Location) -> TreeFold
+    ensures { result ≡ with_ring tree place }
 {
-    Fold {
-        odd: flipped(fold.odd, place),
-        on: fold.on | is_boundary(place),
-        ..fold
+    TreeFold {
+        odd: flipped(tree.odd, place),
+        on: tree.on | (place == Location::OnBoundary),
     }
 }
 
 /// One more ring, of a higher number than those before it, with the point's place in it. The polygon table of a list holds where the
 /// rings of each of its `count` polygons end; a tree's is not looked at. Over a table that does not fit the call is safe and gives
 /// some fold.
-pub fn fold_ring(
-    kind: Kind,
-    polygons: &[usize],
-    count: usize,
-    fold: Fold,
-    ring: usize,
-    place: Location,
-) -> Fold
-    ensures { Folds kind polygons.now count fold ring place result }
+pub fn fold_ring(polygons: &[usize], count: usize, fold: Fold, ring: usize, place: Location) -> Fold
+    ensures { Folds polygons.now count fold ring place result }
 {
-    match kind {
-        Kind::Polygons => fold_list(polygons, count, fold, ring, place),
-        Kind::Tree => fold_tree(fold, place),
+    match fold {
+        Fold::List(list) => Fold::List(fold_list(polygons, count, list, ring, place)),
+        Fold::Tree(tree) => Fold::Tree(fold_tree(tree, place)),
     }
 }
 
-// The strongest of the polygons before the current one and of that one.
-fn list_place(fold: Fold) -> Location
-    ensures { result ≡ place_of Polygons fold }
-{
-    stronger(fold.best, fold.current)
-}
-
 // Any boundary is the boundary; otherwise inside an odd number of rings is inside.
-fn tree_place(fold: Fold) -> Location
-    ensures { result ≡ place_of Tree fold }
+fn tree_place(tree: TreeFold) -> Location
+    ensures { result ≡ tree_place_of tree }
 {
-    if fold.on {
+    if tree.on {
         Location::OnBoundary
     } else {
-        odd_place(fold.odd)
+        odd_place(tree.odd)
     }
 }
 
 /// Where the point lies if no further ring is met.
-pub fn finish(kind: Kind, fold: Fold) -> Location
-    ensures { result ≡ place_of kind fold }
+pub fn finish(fold: Fold) -> Location
+    ensures { result ≡ place_of fold }
 {
-    match kind {
-        Kind::Polygons => list_place(fold),
-        Kind::Tree => tree_place(fold),
+    match fold {
+        Fold::List(list) => list_place(list),
+        Fold::Tree(tree) => tree_place(tree),
     }
 }

@@ -28,7 +28,7 @@ pub record FoldedTo (kind : Kind) (places : ℕ → Location) (polygons : List �
   pub ahead : (i : ℕ) → k ≤ i → i < size_of count layout → r ≤ ring_at layout listed i
   pub folding : Folding kind places polygons m r fold
 
-pub folded_none : (kind : Kind) (places : ℕ → Location) (polygons : List ℕ) (m count : ℕ) (layout : Layout) (listed : List ℕ) → FoldedTo kind places polygons m count layout listed 0 begun
+pub folded_none : (kind : Kind) (places : ℕ → Location) (polygons : List ℕ) (m count : ℕ) (layout : Layout) (listed : List ℕ) → FoldedTo kind places polygons m count layout listed 0 (begun kind)
 folded_none kind places polygons m count layout listed =
     record { r = 0; most = omega arith; behind = λ i h. absurd (omega arith); ahead = λ i h l. omega arith; folding = begins kind places polygons m }
 
@@ -45,7 +45,7 @@ module _ (kind : Kind) (places : ℕ → Location) (polygons : List ℕ) (m coun
       go i l e (no c) (yes d) = absurd (omega (arith, let s : ring k ≡ j = rw d at e in s))
       go i l e (no c) (no d) = absurd (omega (arith, S.rise k i (omega arith) l))
 
-  pub folded_more : k < size_of count layout → (next : Fold) → Folds kind polygons m fold (ring k) (Slots.place_of (get_or slots k (pos 0))) next → FoldedTo kind places polygons m count layout listed (k + 1) next
+  pub folded_more : k < size_of count layout → (next : Fold) → Folds polygons m fold (ring k) (Slots.place_of (get_or slots k (pos 0))) next → FoldedTo kind places polygons m count layout listed (k + 1) next
   folded_more h next step =
       record {
         r = ring k + 1;
@@ -59,7 +59,7 @@ module _ (kind : Kind) (places : ℕ → Location) (polygons : List ℕ) (m coun
       go i l (yes d) = rw d (omega arith)
       go i l (no d) = omega (arith, S.rise i k (omega arith) h)
 
-  pub folded_all : size_of count layout ≤ k → place_of kind fold ≡ region_place kind places polygons m count
+  pub folded_all : size_of count layout ≤ k → place_of fold ≡ region_place kind places polygons m count
   folded_all h = rest kind places polygons count m fits F.r fold F.folding F.most (λ j a b. S.rest j b (λ i l e. absurd (omega (arith, F.behind i (omega arith)))))
 
 -- ---- every slot that counts stands in its array

@@ -7,6 +7,7 @@ use Rattle.rings.specs.declared.crossings.Crossing.{Crossing}
 use Rattle.rings.specs.Crossings.{is_on, weight_of}
 use Rattle.rays.specs.Numbered.{crossing_at}
 use Rattle.boxes.specs.Rings.{in_ring, RingAt, RingEnds}
+use Rattle.walk.specs.declared.LentPlan.{LentPlan}
 use Rattle.walk.specs.declared.Query.{Query}
 use Rattle.walk.specs.Steps.{WalkSound}
 use Rattle.walk.specs.Walks.{Yielded}
@@ -82,3 +83,13 @@ abbrev pub CollectSays : ℕ → ℕ → List ℤ → List ℕ → List (List �
 CollectSays n count corners rings boxes parts edges ray query p layout listed slots listed' slots' (Ok layout') = Gathered n count corners rings boxes parts edges ray query p layout listed slots listed' slots' layout'
 CollectSays n count corners rings boxes parts edges ray query p layout listed slots listed' slots' (Err TooMany) = is_listed layout ≡ true
 CollectSays n count corners rings boxes parts edges ray query p layout listed slots listed' slots' (Err Unsound) = WalkedSound n count corners rings boxes parts edges → Tallied count [] layout listed slots → ⊥
+
+-- ---- of a plan that is lent
+abbrev pub NoteIn : LentPlan → Ray → Point → ℕ → Layout → List ℕ → List ℤ → List ℕ → List ℤ → Result Noted Stopped → Type 0
+NoteIn plan = NoteSays plan.n plan.count plan.corners.now plan.rings.now
+
+abbrev pub LeafIn : LentPlan → Ray → Point → ℕ → ℕ → Layout → List ℕ → List ℤ → List ℕ → List ℤ → Result Noted Stopped → Type 0
+LeafIn plan = LeafNoted plan.n plan.count plan.corners.now plan.rings.now plan.edges.now
+
+abbrev pub CollectIn : LentPlan → Ray → Query → Point → Layout → List ℕ → List ℤ → List ℕ → List ℤ → Result Layout Stopped → Type 0
+CollectIn plan = CollectSays plan.n plan.count plan.corners.now plan.rings.now plan.boxes.now plan.parts.now plan.edges.now

@@ -6,6 +6,10 @@ use Rattle.rings.specs.declared.crossings.Crossing.{Crossing}
 use Rattle.rings.specs.Crossings.{is_on}
 use Rattle.rays.specs.Along.{is_crossed}
 use Rattle.boxes.specs.Rings.{RingEnds}
+use Rattle.geom.specs.declared.Point.{Point}
+use Rattle.rules.specs.declared.Ray.{Ray}
+use Rattle.rays.specs.Numbered.{half_crossing_at}
+use Rattle.walk.specs.declared.LentPlan.{LentPlan}
 use Rattle.walk.specs.declared.Query.{Query}
 use Rattle.walk.specs.Walks.{Yielded}
 use Rattle.walk.specs.Edges.{EdgeSound}
@@ -45,3 +49,16 @@ abbrev pub ParitySays : ℕ → ℕ → List ℤ → List ℕ → List (List ℤ
 ParitySays n count corners rings boxes parts edges query crossings (Ok (Some odd)) = WalkedSound n count corners rings boxes parts edges → ParityTo n corners rings edges query crossings odd
 ParitySays n count corners rings boxes parts edges query crossings (Ok None) = WalkedSound n count corners rings boxes parts edges → OnOne n crossings
 ParitySays n count corners rings boxes parts edges query crossings (Err _) = WalkedSound n count corners rings boxes parts edges → ⊥
+
+-- ---- of a plan that is lent, along a ray
+abbrev pub crossings_in : LentPlan → Ray → Point → ℕ → Crossing
+crossings_in plan ray p = half_crossing_at plan.n plan.corners.now plan.rings.now ray p
+
+abbrev pub CrossIn : LentPlan → Ray → Point → Bool → ℕ → Result (Option Crossed) Unsound → Type 0
+CrossIn plan ray p = CrossSays plan.n plan.count plan.corners.now plan.rings.now (crossings_in plan ray p)
+
+abbrev pub LeafCrossedIn : LentPlan → Ray → Point → Bool → ℕ → ℕ → Result (Option Crossed) Unsound → Type 0
+LeafCrossedIn plan ray p = LeafCrossed plan.n plan.count plan.corners.now plan.rings.now plan.edges.now (crossings_in plan ray p)
+
+abbrev pub ParityIn : LentPlan → Ray → Point → Query → Result (Option Bool) Unsound → Type 0
+ParityIn plan ray p query = ParitySays plan.n plan.count plan.corners.now plan.rings.now plan.boxes.now plan.parts.now plan.edges.now query (crossings_in plan ray p)

@@ -3,3 +3,4 @@ pub mod Tallies
 pub mod Collections
 pub mod Regions
 pub mod Halves
+pub mod Lent

@@ -3,25 +3,22 @@
 ghost use Rattle.std.specs.Prelude.{◌≡◌, ◌≤◌, length};
 ghost use Rattle.rules.specs.Plans.{rings_of};
 ghost use Rattle.rules.specs.Replies.{half_reply};
-ghost use Rattle.rules.specs.Tables.{plan_of};
 ghost use Rattle.rings.specs.Half.{crossed_once};
-ghost use Rattle.rays.specs.Along.{is_crossed};
-ghost use Rattle.rays.specs.Numbered.{half_crossing_at};
-ghost use Rattle.gather.specs.Regions.{LookedUp};
-ghost use Rattle.gather.specs.Halves.{CrossSays, LeafCrossed, ParitySays};
+ghost use Rattle.gather.specs.Lent.{plan_in, LookedIn};
+ghost use Rattle.gather.specs.Halves.{CrossIn, LeafCrossedIn, ParityIn};
 
-use crate::region::lent_enough;
+use crate::tables::Tables;
 use boxes::rect_at;
 use geom::Point;
 use index::build::STACK;
 use rays::along::crossing_along;
 use rays::reach::half_rect;
-use rings::crossings::{Crossing, is_on};
+use rings::crossings::Crossing;
 use rings::half::doubled_corner;
 use rings::places::odd_place;
 use rules::{Location, Ray, Refusal, Reply, State, Unsound};
 use walk::edges::edge_at;
-use walk::{Query, next_leaf, past_leaf, start};
+use walk::{LentPlan, Query, next_leaf, past_leaf, start};
 
 // What stands once an edge is counted, or the edges of a leaf: the parity with it, and the last edge's ring.
 #[derive(Clone, Copy)]
@@ -30,37 +27,27 @@ pub(crate) struct Crossed {
     pub ring: usize,
 }
 
-// Whether an edge is crossed.
-fn is_crossed(crossing: Crossing) -> bool
-    ensures { result ≡ is_crossed crossing }
-{
-    matches!(crossing, Crossing::Up | Crossing::Down)
-}
-
 // A parity with one more edge. No way through the code hangs on the edge, since no processor foresees how it counts.
 fn turned_over(odd: bool, crossing: Crossing) -> bool
     ensures { result ≡ crossed_once odd crossing }
 {
-    odd != is_crossed(crossing)
+    odd != matches!(crossing, Crossing::Up | Crossing::Down)
 }
 
 // Counts edge e with its corners doubled: `None` where the point is on it.
 fn cross(
     odd: bool,
     ray: Ray,
-    corners: &[i64],
-    rings: &[usize],
-    n: usize,
-    count: usize,
+    plan: &LentPlan<'_>,
     e: usize,
     near: usize,
     p: Point,
 ) -> Result<Option<Crossed>, Unsound>
-    ensures { CrossSays n count corners.now rings.now (half_crossing_at n corners.now rings.now ray p) odd e result }
+    ensures { CrossIn plan.now ray p odd e result }
 {
-    let edge = edge_at(corners, rings, n, count, e, near)?;
+    let edge = edge_at(plan, e, near)?;
     let crossing = crossing_along(ray, doubled_corner(edge.from), doubled_corner(edge.to), p);
-    if is_on(crossing) {
+    if crossing == Crossing::On {
         return Ok(None);
     }
     Ok(Some(Crossed {
@@ -73,25 +60,18 @@ fn cross(
 fn cross_leaf(
     odd: bool,
     ray: Ray,
-    corners: &[i64],
-    rings: &[usize],
-    edges: &[usize],
-    n: usize,
-    count: usize,
+    plan: &LentPlan<'_>,
     at: usize,
     to: usize,
     near: usize,
     p: Point,
 ) -> Result<Option<Crossed>, Unsound>
-    requires { (at ≤ to) × (to ≤ length edges.now) }
-    ensures { LeafCrossed n count corners.now rings.now edges.now (half_crossing_at n corners.now rings.now ray p) odd at to result }
+    requires { (at ≤ to) × (to ≤ length plan.now.edges.now) }
+    ensures { LeafCrossedIn plan.now ray p odd at to result }
 {
     let mut here = Crossed { odd, ring: near };
     for k in at..to {
-        let Some(further) = cross(
-            here.odd, ray, corners, rings, n, count, edges[k], here.ring, p,
-        )?
-        else {
+        let Some(further) = cross(here.odd, ray, plan, plan.edges[k], here.ring, p)? else {
             return Ok(None);
         };
         here = further;
@@ -100,31 +80,17 @@ fn cross_leaf(
 }
 
 // Walks from leaf to leaf and counts the edges of each: whether an odd number is crossed, or `None` where the point is on one.
-fn parity_by(
-    ray: Ray,
-    query: Query,
-    corners: &[i64],
-    rings: &[usize],
-    boxes: &[[i64; 4]],
-    parts: &[[usize; 3]],
-    edges: &[usize],
-    n: usize,
-    count: usize,
-    p: Point,
-) -> Result<Option<bool>, Unsound>
-    ensures { ParitySays n count corners.now rings.now boxes.now parts.now edges.now query (half_crossing_at n corners.now rings.now ray p) result }
+fn parity_by(ray: Ray, query: Query, plan: &LentPlan<'_>, p: Point) -> Result<Option<bool>, Unsound>
+    ensures { ParityIn plan.now ray p query result }
 {
     let mut stack = [0usize; STACK];
-    let mut cursor = start(n);
+    let mut cursor = start(plan.n);
     let mut here = Crossed {
         odd: false,
         ring: 0,
     };
-    while let Some(leaf) = next_leaf(&mut stack, boxes, parts, edges, n, query, cursor)? {
-        let Some(further) = cross_leaf(
-            here.odd, ray, corners, rings, edges, n, count, leaf.at, leaf.to, here.ring, p,
-        )?
-        else {
+    while let Some(leaf) = next_leaf(&mut stack, plan, query, cursor)? {
+        let Some(further) = cross_leaf(here.odd, ray, plan, leaf.at, leaf.to, here.ring, p)? else {
             return Ok(None);
         };
         here = further;
@@ -137,45 +103,15 @@ fn parity_by(
 /// the same for each ray. The range of p is not looked at.
 ///
 /// On other tables some place, or 15 (`Unsound`): where a table is shorter than the state says or a walk leads outside a table.
-pub fn half_along(
-    ray: Ray,
-    state: State,
-    corners: &[i64],
-    rings: &[usize],
-    polygons: &[usize],
-    boxes: &[[i64; 4]],
-    parts: &[[usize; 3]],
-    edges: &[usize],
-    p: Point,
-) -> Reply
-    ensures { LookedUp state corners.now rings.now polygons.now boxes.now parts.now edges.now (half_reply (rings_of (plan_of state corners.now rings.now polygons.now)) p) result }
+pub fn half_along(ray: Ray, state: State, tables: &Tables<'_>, p: Point) -> Reply
+    ensures { LookedIn state tables.now (half_reply (rings_of (plan_in state tables.now)) p) result }
 {
-    if !lent_enough(
-        state,
-        corners.len(),
-        rings.len(),
-        polygons.len(),
-        boxes.len(),
-        parts.len(),
-        edges.len(),
-    ) {
+    if !tables.are_enough(state) {
         return Err(Refusal::Unsound);
     }
-    let query = Query::Meeting(half_rect(ray, rect_at(boxes, 0), p));
-    match parity_by(
-        ray,
-        query,
-        corners,
-        rings,
-        boxes,
-        parts,
-        edges,
-        state.corners,
-        state.rings,
-        p,
-    ) {
-        Ok(Some(odd)) => Ok(odd_place(odd)),
-        Ok(None) => Ok(Location::OnBoundary),
-        Err(_) => Err(Refusal::Unsound),
+    let query = Query::Meeting(half_rect(ray, rect_at(tables.boxes, 0), p));
+    match parity_by(ray, query, &tables.lent(state), p)? {
+        Some(odd) => Ok(odd_place(odd)),
+        None => Ok(Location::OnBoundary),
     }
 }

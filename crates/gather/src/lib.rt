@@ -4,4 +4,5 @@
 mod collect;
 pub mod half;
 pub mod region;
+pub mod tables;
 mod tally;

@@ -2,17 +2,16 @@
 // `locate_raw` of src/prepared.rs). At most two walks: the first lists up to 128 rings, and only where it meets more of them does a second
 // one give each ring a slot. So the work goes by the edges met, however the rings are nested, and no lent table is written.
 ghost use Rattle.std.specs.Prelude.{◌≡◌, true, false, [], ◌≤◌, ◌<◌, length};
-ghost use Rattle.rules.specs.Tables.{plan_of};
-ghost use Rattle.walk.specs.Steps.{Whether};
 ghost use Rattle.gather.specs.Tallies.{ring_at, size_of, is_listed, Room, Tallied};
-ghost use Rattle.gather.specs.Regions.{Listable, FoldSays, Enough, LookSound, RegionSays, region_reply, reply_of, LookedUp};
+ghost use Rattle.gather.specs.Regions.{Listable, FoldSays, RegionSays, region_reply};
+ghost use Rattle.gather.specs.Lent.{plan_in, SoundIn, LookedIn};
 
 use crate::collect::{Stopped, collect};
+use crate::tables::Tables;
 use crate::tally::{LISTED, Layout, place_of};
 use boxes::rect_at;
 use fold::{begin, finish, fold_ring};
 use geom::Point;
-use index::count::node_count;
 use plans::MAX_RINGS;
 use rays::reach::ray_rect;
 use rules::{Kind, Location, Ray, Refusal, Reply, State, polygons_in};
@@ -53,13 +52,13 @@ fn fold_slots(
     requires count_bound { count ≤ 65536 }
     ensures { FoldSays kind polygons.now polygon_count count layout listed.now slots.now result }
 {
-    let mut fold = begin();
+    let mut fold = begin(kind);
     for k in 0..size_of(layout, count) {
         let ring = ring_at(layout, listed, k);
         let place = place_of(slots[k]);
-        fold = fold_ring(kind, polygons, polygon_count, fold, ring, place);
+        fold = fold_ring(polygons, polygon_count, fold, ring, place);
     }
-    finish(kind, fold)
+    finish(fold)
 }
 
 // What one walk along the ray says of the region, with no edge counted before it.
@@ -67,32 +66,24 @@ fn region_by(
     layout: Layout,
     ray: Ray,
     state: State,
-    corners: &[i64],
-    rings: &[usize],
-    polygons: &[usize],
-    boxes: &[[i64; 4]],
-    parts: &[[usize; 3]],
-    edges: &[usize],
+    tables: &Tables<'_>,
     p: Point,
     listed: &mut [usize],
     slots: &mut [i64],
 ) -> Result<Location, Stopped>
     requires room { Room layout (length listed.old) (length slots.old) }
-    requires as_stated { (state.rings ≤ 65536) × (0 < length boxes.now) }
-    ensures { RegionSays (is_listed layout) (LookSound state corners.now rings.now polygons.now boxes.now parts.now edges.now × Tallied state.rings [] layout listed.old slots.old) (region_reply (plan_of state corners.now rings.now polygons.now) p) result }
+    requires as_stated { (state.rings ≤ 65536) × (0 < length tables.now.boxes.now) }
+    ensures { RegionSays (is_listed layout) (SoundIn state tables.now × Tallied state.rings [] layout listed.old slots.old) (region_reply (plan_in state tables.now) p) result }
 {
-    let query = Query::Meeting(ray_rect(ray, rect_at(boxes, 0), p));
-    let n = state.corners;
-    let count = state.rings;
-    let whole = collect(
-        layout, ray, query, corners, rings, boxes, parts, edges, n, count, p, listed, slots,
-    )?;
+    let query = Query::Meeting(ray_rect(ray, rect_at(tables.boxes, 0), p));
+    let plan = tables.lent(state);
+    let whole = collect(layout, ray, query, &plan, p, listed, slots)?;
     let polygon_count = polygons_in(state.kind, state.polygons);
     Ok(fold_slots(
         state.kind,
-        polygons,
+        tables.polygons,
         polygon_count,
-        count,
+        state.rings,
         whole,
         listed,
         slots,
@@ -100,19 +91,9 @@ fn region_by(
 }
 
 // By a list of rings.
-fn few_rings(
-    ray: Ray,
-    state: State,
-    corners: &[i64],
-    rings: &[usize],
-    polygons: &[usize],
-    boxes: &[[i64; 4]],
-    parts: &[[usize; 3]],
-    edges: &[usize],
-    p: Point,
-) -> Result<Location, Stopped>
-    requires { (state.rings ≤ 65536) × (0 < length boxes.now) }
-    ensures { RegionSays true (LookSound state corners.now rings.now polygons.now boxes.now parts.now edges.now) (region_reply (plan_of state corners.now rings.now polygons.now) p) result }
+fn few_rings(ray: Ray, state: State, tables: &Tables<'_>, p: Point) -> Result<Location, Stopped>
+    requires { (state.rings ≤ 65536) × (0 < length tables.now.boxes.now) }
+    ensures { RegionSays true (SoundIn state tables.now) (region_reply (plan_in state tables.now) p) result }
 {
     let mut listed = [0; LISTED];
     let mut slots = [0; LISTED];
@@ -120,12 +101,7 @@ fn few_rings(
         Layout::Listed(0),
         ray,
         state,
-        corners,
-        rings,
-        polygons,
-        boxes,
-        parts,
-        edges,
+        tables,
         p,
         &mut listed,
         &mut slots,
@@ -135,19 +111,9 @@ fn few_rings(
 // By a slot for each ring, where a list has not been enough. A function of its own in the machine's code too: as a part of `region_along`
 // it would have each look-up touch all pages of half a mebibyte before its first step.
 #[inline(never)]
-fn many_rings(
-    ray: Ray,
-    state: State,
-    corners: &[i64],
-    rings: &[usize],
-    polygons: &[usize],
-    boxes: &[[i64; 4]],
-    parts: &[[usize; 3]],
-    edges: &[usize],
-    p: Point,
-) -> Result<Location, Stopped>
-    requires { (state.rings ≤ 65536) × (0 < length boxes.now) }
-    ensures { RegionSays false (LookSound state corners.now rings.now polygons.now boxes.now parts.now edges.now) (region_reply (plan_of state corners.now rings.now polygons.now) p) result }
+fn many_rings(ray: Ray, state: State, tables: &Tables<'_>, p: Point) -> Result<Location, Stopped>
+    requires { (state.rings ≤ 65536) × (0 < length tables.now.boxes.now) }
+    ensures { RegionSays false (SoundIn state tables.now) (region_reply (plan_in state tables.now) p) result }
 {
     let mut listed = [0; 1];
     let mut slots = [0; MAX_RINGS];
@@ -155,47 +121,22 @@ fn many_rings(
         Layout::EachRing,
         ray,
         state,
-        corners,
-        rings,
-        polygons,
-        boxes,
-        parts,
-        edges,
+        tables,
         p,
         &mut listed,
         &mut slots,
     )
 }
 
-// A region's place as a reply.
-fn answer(region: Result<Location, Stopped>) -> Reply
-    ensures { result ≡ reply_of region }
+// By a list of rings, or by a slot for each ring where the list has not been enough.
+fn region(ray: Ray, state: State, tables: &Tables<'_>, p: Point) -> Result<Location, Stopped>
+    requires { (state.rings ≤ 65536) × (0 < length tables.now.boxes.now) }
+    ensures { RegionSays false (SoundIn state tables.now) (region_reply (plan_in state tables.now) p) result }
 {
-    match region {
-        Ok(location) => Ok(location),
-        Err(_) => Err(Refusal::Unsound),
+    match few_rings(ray, state, tables, p) {
+        Err(Stopped::TooMany) => many_rings(ray, state, tables, p),
+        few => few,
     }
-}
-
-// Whether tables of these lengths are as long as the state says.
-pub(crate) fn lent_enough(
-    state: State,
-    corners: usize,
-    rings: usize,
-    polygons: usize,
-    boxes: usize,
-    parts: usize,
-    edges: usize,
-) -> bool
-    ensures { Whether (Enough state corners rings polygons boxes parts edges) result }
-{
-    let nodes = node_count(state.corners);
-    state.corners <= corners / 2
-        && state.rings <= rings
-        && polygons_in(state.kind, state.polygons) <= polygons
-        && nodes <= boxes
-        && nodes <= parts
-        && state.corners <= edges
 }
 
 /// Where p lies in the region of a prepared plan, along any of the four rays: on sound tables the reply by the polygon, list or tree
@@ -203,37 +144,14 @@ pub(crate) fn lent_enough(
 ///
 /// On other tables some place, or 15 (`Unsound`): where a table is shorter than the state says, where there are more than 65,536 rings,
 /// or where a walk leads outside a table.
-pub fn region_along(
-    ray: Ray,
-    state: State,
-    corners: &[i64],
-    rings: &[usize],
-    polygons: &[usize],
-    boxes: &[[i64; 4]],
-    parts: &[[usize; 3]],
-    edges: &[usize],
-    p: Point,
-) -> Reply
-    ensures { LookedUp state corners.now rings.now polygons.now boxes.now parts.now edges.now (region_reply (plan_of state corners.now rings.now polygons.now) p) result }
+pub fn region_along(ray: Ray, state: State, tables: &Tables<'_>, p: Point) -> Reply
+    ensures { LookedIn state tables.now (region_reply (plan_in state tables.now) p) result }
 {
-    if !lent_enough(
-        state,
-        corners.len(),
-        rings.len(),
-        polygons.len(),
-        boxes.len(),
-        parts.len(),
-        edges.len(),
-    ) {
+    if !tables.are_enough(state) {
         return Err(Refusal::Unsound);
     }
     if MAX_RINGS < state.rings {
         return Err(Refusal::Unsound);
     }
-    match few_rings(ray, state, corners, rings, polygons, boxes, parts, edges, p) {
-        Err(Stopped::TooMany) => answer(many_rings(
-            ray, state, corners, rings, polygons, boxes, parts, edges, p,
-        )),
-        region => answer(region),
-    }
+    Ok(region(ray, state, tables, p)?)
 }

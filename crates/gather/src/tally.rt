@@ -4,11 +4,11 @@ ghost use Rattle.std.specs.Prelude.{◌≡◌, ◌-◌, ◌<◌, ◌≤◌, ◌^
 ghost use Rattle.geom.specs.Range.{within};
 ghost use Rattle.walk.specs.Steps.{Whether};
 ghost use Rattle.gather.specs.declared.tally.Layout.TheVariants.{Listed};
-ghost use Rattle.gather.specs.Slots.{counted_of, place_of, is_nothing};
+ghost use Rattle.gather.specs.Slots.{counted_of, place_of};
 ghost use Rattle.gather.specs.Tallies.{Reaching, Inserted, Room, AddSays};
 
 use boxes::ring_of;
-use rings::crossings::{Crossing, is_nonzero, is_on, wound};
+use rings::crossings::{Crossing, wound};
 use rules::Location;
 
 // How many rings a list of rings has room for.
@@ -17,10 +17,11 @@ pub(crate) const LISTED: usize = 128;
 // The most windings either way that a slot counts: no plan has so many edges.
 const MOST: i64 = 2305843009213693952;
 
-// The slot of a ring that the point is on.
+// The slot of a ring that the point is on. An `Option<i64>` for a slot takes twice the memory: a mebibyte of stack for 65,536 rings.
 const BOUNDARY: i64 = 4611686018427387904;
 
-// Which slot belongs to which ring.
+// Which slot belongs to which ring. A list that kept its own length would make count and fold generic over two kinds of slots, to save one
+// branch at an edge.
 #[derive(Clone, Copy)]
 pub(crate) enum Layout {
     // Slot k belongs to the ring at place k of a list of rings by rising number, which holds so many.
@@ -36,19 +37,12 @@ fn is_winding(slot: i64) -> bool
     (0 - MOST <= slot) & (slot <= MOST)
 }
 
-// Whether an edge says nothing of the point.
-fn is_nothing(crossing: Crossing) -> bool
-    ensures { result ≡ is_nothing crossing }
-{
-    matches!(crossing, Crossing::Nothing)
-}
-
 // A slot with one edge more.
 fn counted(slot: i64, crossing: Crossing) -> i64
     ensures { result ≡ counted_of slot crossing }
 {
     if is_winding(slot) {
-        if is_on(crossing) {
+        if crossing == Crossing::On {
             return BOUNDARY;
         }
         return wound(slot, crossing);
@@ -61,7 +55,7 @@ pub(crate) fn place_of(slot: i64) -> Location
     ensures { result ≡ place_of slot }
 {
     if is_winding(slot) {
-        if is_nonzero(slot) {
+        if slot != 0 {
             return Location::Inside;
         }
         return Location::Outside;
@@ -150,7 +144,7 @@ pub(crate) fn add(
     requires ring_bound { ring < 65536 }
     ensures { AddSays layout listed.old slots.old ring crossing listed.new slots.new result }
 {
-    if is_nothing(crossing) {
+    if matches!(crossing, Crossing::Nothing) {
         return Some(layout);
     }
     match layout {

@@ -1,5 +1,5 @@
 -- Closed boxes (document 01, item 1).
-use Rattle.std.specs.Prelude.{Bool, ◌&&◌, ◌^◌, pos, neg_ℤ}
+use Rattle.std.specs.Prelude.{Bool, ◌&&◌, ◌^◌, List, [], ◌∷◌, ℤ, pos, neg_ℤ, get_or}
 use Rattle.std.specs.Int.Signed.{le_z}
 use Rattle.integers.specs.Extremes.{min_z, max_z}
 use Rattle.geom.specs.declared.Point.{Point}
@@ -32,3 +32,14 @@ holds_point r p = (le_z r.min.x p.x && le_z p.x r.max.x) && (le_z r.min.y p.y &&
 
 abbrev pub holds_rect : Rect → Rect → Bool
 holds_rect r s = holds_point r s.min && holds_point r s.max
+
+-- a box as a row of the box table, and a row as a box
+abbrev pub row_of : Rect → List ℤ
+row_of r = r.min.x ∷ r.min.y ∷ r.max.x ∷ r.max.y ∷ []
+
+abbrev pub rect_in : List ℤ → Rect
+rect_in row =
+    record {
+      min = record { x = get_or row 0 (pos 0); y = get_or row 1 (pos 0) };
+      max = record { x = get_or row 2 (pos 0); y = get_or row 3 (pos 0) };
+    }

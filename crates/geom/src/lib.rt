@@ -138,3 +138,30 @@ impl Rect {
         ((self.min.x <= p.x) & (p.x <= self.max.x)) & ((self.min.y <= p.y) & (p.y <= self.max.y))
     }
 }
+
+/// A row of the box table: the least x and y, then the greatest.
+impl From<Rect> for [i64; 4] {
+    ghost use Rattle.std.specs.Prelude.{◌≡◌};
+    ghost use Rattle.geom.specs.Boxes.{row_of};
+
+    ghost from_gives = { λ rect row. row ≡ row_of rect };
+
+    fn from(rect: Rect) -> Self {
+        [rect.min.x, rect.min.y, rect.max.x, rect.max.y]
+    }
+}
+
+impl From<[i64; 4]> for Rect {
+    ghost use Rattle.std.specs.Prelude.{◌≡◌};
+    ghost use Rattle.geom.specs.Boxes.{rect_in};
+
+    ghost from_gives = { λ row rect. rect ≡ rect_in row };
+
+    fn from(row: [i64; 4]) -> Self {
+        let [left, low, right, high] = row;
+        Self {
+            min: Point { x: left, y: low },
+            max: Point { x: right, y: high },
+        }
+    }
+}

@@ -1,16 +1,18 @@
 -- Spaces and numbers read from a place of a text on. Assumes nothing.
-use mathlib.Core.Path.{◌≡◌, refl, sym, ap, ◌∙◌}
+use mathlib.Core.Path.{◌≡◌, refl, sym, ap, subst, ◌∙◌}
 use mathlib.Core.Bool.{Bool, true, false, cond, and-false}
 use mathlib.Core.List.{List}
 use Prim.Native.Nat.{ℕ, zero, suc, ◌+◌, ◌-◌, ◌*◌, ◌^◌, ◌≤◌, ◌<◌}
 use native.Mathlib.Decide.{dec_lt}
 use native.Mathlib.Omega.{arith}
-use lib.IntN.{ℤ, pos}
-use lib.ListN.{length, get_or}
-use lib.Dec.{leb}
-use borrow.Author.Tests.{lt-ltb, le-ltb, lt-leb, le-leb, ne_eqb}
-use Rattle.std.specs.Prelude.{Ok, Err}
-use Rattle.grammar.specs.Numbers.{Whole, Begun, minus_begun, value_begun, off_begun, is_digit, value_of, whole_of, plain, under, fitting, first_byte, next_digit}
+use lib.IntN.{ℤ, pos, negsuc}
+use lib.ListN.{length, get_or, drop, length-drop}
+use lib.Seq.{get_or-drop}
+use lib.Dec.{leb, ltb}
+use borrow.Author.Tests.{lt-leb, le-leb, ne_eqb}
+use Rattle.std.proofs.lemmas.Option.{none-some}
+use Rattle.std.specs.Prelude.{Some, None, Ok, Err}
+use Rattle.grammar.specs.Numbers.{Whole, Begun, minus_begun, value_begun, off_begun, is_digit, value_of, whole_of, plain, under, first_byte, after_value, next_digit, begun_number}
 use Rattle.grammar.specs.Modes.{Mode, broken_mode, nothing_event, begun_x, begun_y, next_mode, event_of}
 use Rattle.grammar.specs.Scans.{SoFar, may_end, is_broken, read_from}
 use Rattle.grammar.specs.Tokens.{Resting, Skipped, Read, Wanted, wants_x, wants_y, wanting, within, Ended, NumberRead}
@@ -38,8 +40,21 @@ skipped_on text at place g h b =
     go k l m (yes n) = g.spaces k l n
     go k l m (no n) = ap (λ i. get_or text i 0) (let e : k ≡ place = omega arith in e) ∙ b
 
-pub skipped : (text : List ℕ) (at place : ℕ) → Skipping text at place → (place < length text → get_or text place 0 ≡ 32 → ⊥) → Skipped text at place
-skipped text at place g s = record { on = g.on; inside = g.inside; spaces = g.spaces; stops = s; same = g.same }
+module _ (text : List ℕ) (at : ℕ) (h : at ≤ length text) (n : ℕ) (spaces : (k : ℕ) → k < n → get_or (drop at text) k 0 ≡ 32) (few : n ≤ length (drop at text)) where
+  reach : at + n ≤ length text
+  reach = let l = length-drop at text in omega arith
+
+  skipping_to : (k : ℕ) → k ≤ n → Skipping text at (at + k)
+  skipping_to zero l = subst (Skipping text at) (let e : at ≡ at + 0 = omega arith in e) (skipping text at h)
+  skipping_to (suc k) l =
+      subst (Skipping text at) (let e : at + k + 1 ≡ at + suc k = omega arith in e)
+      (skipped_on text at (at + k) (skipping_to k (omega arith)) (let r = reach in omega arith) (sym (get_or-drop at text k 0) ∙ spaces k (omega arith)))
+
+  pub skipped : (r : ℕ) → r ≡ at + n → (n < length (drop at text) → get_or (drop at text) n 0 ≡ 32 → ⊥) → Skipped text at r
+  skipped r e s =
+      let g = skipping_to n (omega arith) in
+      let l = length-drop at text in
+      subst (Skipped text at) (sym e) (record { on = g.on; inside = g.inside; spaces = g.spaces; stops = λ i b. s (omega arith) (get_or-drop at text n 0 ∙ b); same = g.same })
 
 -- ---- numbers and pairs
 
@@ -117,68 +132,69 @@ wanting_rests (wants_y multi x) = record { stays = refl; silent = refl; whole = 
 
 -- ---- a digit more
 
-pub at_most_nine : (below : Bool) → cond below 9 0 ≤ 9
-at_most_nine true = omega arith
-at_most_nine false = omega arith
+begun_some : (b : Begun) (z : ℤ) → Some z ≡ begun_number b → b ≡ value_begun (whole_of z)
+begun_some minus_begun z e = absurd (none-some _ (sym e))
+begun_some (value_begun w) z e = let same : z ≡ value_of w = cc in sym (ap (λ y. value_begun (whole_of y)) same ∙ ap value_begun (whole_back w))
+begun_some off_begun z e = absurd (none-some _ (sym e))
 
-grown_is : (below : Bool) (worth more d : ℕ) → more ≡ cond below 9 0 → (below ≡ false → 0 < worth) → next_digit (value_begun (record { below = below; size = worth })) d ≡ fitting (record { below = below; size = worth * 10 + more + d })
-grown_is true worth more d e s = ap (λ k. fitting (under (worth * 10 + k + d))) (sym e)
-grown_is false zero more d e s = absurd (let h = s refl in omega arith)
-grown_is false (suc n) more d e s = ap (λ k. fitting (plain (k + d))) (let k : suc n * 10 ≡ suc n * 10 + more = omega arith in k)
+-- a digit behind a number makes a number or none
+begun_none : (w : Whole) (d : ℕ) → None ≡ begun_number (next_digit (value_begun w) d) → next_digit (value_begun w) d ≡ off_begun
+begun_none w d e = go w.below w.size e
+  where
+    fits : (v : Whole) (b : Bool) → None ≡ begun_number (cond b (value_begun v) off_begun) → cond b (value_begun v) off_begun ≡ off_begun
+    fits v true e = absurd (none-some _ e)
+    fits v false e = refl
 
-too_large_lem : (v : Whole) → 2 ^ 63 ≤ v.size → fitting v ≡ off_begun
-too_large_lem v h = rw (le-ltb v.size (2 ^ 63) h) refl
+    go : (b : Bool) (n : ℕ) → None ≡ begun_number (after_value (record { below = b; size = n }) d) → after_value (record { below = b; size = n }) d ≡ off_begun
+    go true n e = fits (under (n * 10 + 9 + d)) (ltb (n * 10 + 9 + d) (2 ^ 63)) e
+    go false zero e = refl
+    go false (suc n) e = fits (plain (suc n * 10 + d)) (ltb (suc n * 10 + d) (2 ^ 63)) e
 
-in_range_lem : (v : Whole) → v.size < 2 ^ 63 → fitting v ≡ value_begun v
-in_range_lem v h = rw (lt-ltb v.size (2 ^ 63) h) refl
+-- and the number is not 0
+begun_other : (z y : ℤ) (d : ℕ) → Some y ≡ begun_number (next_digit (value_begun (whole_of z)) d) → y ≡ pos 0 → ⊥
+begun_other z y d e o = go z (e ∙ refl)
+  where
+    none : (v : Whole) (b : Bool) → (value_of v ≡ pos 0 → ⊥) → Some y ≡ begun_number (cond b (value_begun v) off_begun) → ⊥
+    none v true h e = let same : y ≡ value_of v = cc in h (sym same ∙ o)
+    none v false h e = none-some _ (sym e)
+
+    go : (z : ℤ) → Some y ≡ begun_number (next_digit (value_begun (whole_of z)) d) → ⊥
+    go (pos zero) e = none-some _ (sym e)
+    go (pos (suc n)) e = none (plain (suc n * 10 + d)) (ltb (suc n * 10 + d) (2 ^ 63)) (λ h. let same : suc n * 10 + d ≡ 0 = cc in omega (arith, same)) e
+    go (negsuc n) e = none (under (n * 10 + 9 + d)) (ltb (n * 10 + 9 + d) (2 ^ 63)) (λ h. let same : ◌≡◌ {A = ℕ} 0 1 = cc in omega (arith, same)) e
 
 -- the digits so far of a number that began like this
-pub record More (text : List ℕ) (at : ℕ) (begun : Begun) (below : Bool) (worth place : ℕ) : Type 0 where
+pub record More (text : List ℕ) (at : ℕ) (begun : Begun) (number : ℤ) (place : ℕ) : Type 0 where
   pub on : at ≤ place
   pub inside : place ≤ length text
-  pub fits : worth < 2 ^ 63
-  pub some : below ≡ false → 0 < worth
-  pub same : (w : Wanted) (f : SoFar) → read_from text at (within w begun) f ≡ read_from text place (within w (value_begun (record { below = below; size = worth }))) f
+  pub some : number ≡ pos 0 → ⊥
+  pub same : (w : Wanted) (f : SoFar) → read_from text at (within w begun) f ≡ read_from text place (within w (value_begun (whole_of number))) f
 
-pub no_more : (text : List ℕ) (at : ℕ) (below : Bool) (size : ℕ) → at ≤ length text → size < 2 ^ 63 → (below ≡ false → 0 < size) → More text at (value_begun (record { below = below; size = size })) below size at
-no_more text at below size h s z = record { on = omega arith; inside = h; fits = s; some = z; same = λ w f. refl }
+module _ (text : List ℕ) (at : ℕ) (begun : Begun) (number : ℤ) (place : ℕ) (g : More text at begun number place) (h : place < length text) (b : is_digit (get_or text place 0) ≡ true) where
+  abbrev digit : ℕ
+  digit = get_or text place 0 - 48
 
-module _ (text : List ℕ) (at : ℕ) (begun : Begun) (below : Bool) (worth place : ℕ) (g : More text at begun below worth place) where
-  abbrev grown : ℕ → ℕ
-  grown more = worth * 10 + more + (get_or text place 0 - 48)
-
-  pub grown_on : (more : ℕ) → more ≡ cond below 9 0 → place < length text → is_digit (get_or text place 0) ≡ true → grown more < 2 ^ 63 → More text at begun below (grown more) (place + 1)
-  grown_on more e h d s =
+  pub grown_on : (grown : ℤ) → Some grown ≡ begun_number (next_digit (value_begun (whole_of number)) digit) → More text at begun grown (place + 1)
+  grown_on grown e =
       let o = g.on in
       record {
         on = omega arith;
         inside = omega arith;
-        fits = s;
-        some = λ p. let k = g.some p in omega arith;
+        some = begun_other number grown digit e;
         same = λ w f. g.same w f
-            ∙ leads text place (within w (value_begun (record { below = below; size = worth }))) f (within w (value_begun (record { below = below; size = grown more }))) nothing_event h
-            (digit_next w (value_begun (record { below = below; size = worth })) (get_or text place 0) d
-            ∙ ap (begun_as w) (grown_is below worth more (get_or text place 0 - 48) e g.some ∙ in_range_lem (record { below = below; size = grown more }) s))
-            (digit_silent w (value_begun (record { below = below; size = worth })) (get_or text place 0) d)
-            (within_whole w (record { below = below; size = grown more }));
+            ∙ leads text place (within w (value_begun (whole_of number))) f (within w (value_begun (whole_of grown))) nothing_event h
+            (digit_next w (value_begun (whole_of number)) (get_or text place 0) b ∙ ap (begun_as w) (begun_some _ grown e))
+            (digit_silent w (value_begun (whole_of number)) (get_or text place 0) b)
+            (within_whole w (whole_of grown));
       }
 
-  pub grown_off : (more : ℕ) → more ≡ cond below 9 0 → place < length text → is_digit (get_or text place 0) ≡ true → 2 ^ 63 ≤ grown more → NumberRead text at (λ w. within w begun) at (Err (record { place = place }))
-  grown_off more e h d s =
+  pub grown_off : None ≡ begun_number (next_digit (value_begun (whole_of number)) digit) → NumberRead text at (λ w. within w begun) at (Err (record { place = place }))
+  grown_off e =
       record {
         ended = tt;
         means = λ w f. g.same w f
-            ∙ leaves text place (within w (value_begun (record { below = below; size = worth }))) f h
-            (digit_next w (value_begun (record { below = below; size = worth })) (get_or text place 0) d
-            ∙ ap (begun_as w) (grown_is below worth more (get_or text place 0 - 48) e g.some ∙ too_large_lem (record { below = below; size = grown more }) s));
-      }
-
-  -- no digit follows
-  pub number_whole : (z : ℤ) → z ≡ value_of (record { below = below; size = worth }) → (place < length text → is_digit (get_or text place 0) ≡ false) → NumberRead text at (λ w. within w begun) at (Ok (z, place))
-  number_whole z e d =
-      record {
-        ended = (g.on, g.inside, d);
-        means = λ w f. g.same w f ∙ ap (λ v. read_from text place (within w (value_begun v)) f) (sym (ap whole_of e ∙ whole_back (record { below = below; size = worth })));
+            ∙ leaves text place (within w (value_begun (whole_of number))) f h
+            (digit_next w (value_begun (whole_of number)) (get_or text place 0) b ∙ ap (begun_as w) (begun_none (whole_of number) digit e));
       }
 
 -- ---- the ways out
@@ -193,10 +209,6 @@ ended_later text from from' (Ok (z, end)) h e = let o = e.0 in (omega arith, e.1
 ended_later text from from' (Err off) h e = tt
 
 module _ (text : List ℕ) (at : ℕ) where
-  -- a 0 is a whole number
-  pub zero_whole : at ≤ length text → (at < length text → is_digit (get_or text at 0) ≡ false) → NumberRead text at (λ w. within w (value_begun (plain 0))) at (Ok (pos 0, at))
-  zero_whole h d = record { ended = (omega arith, h, d); means = λ w f. refl }
-
   -- a byte that no number goes on with
   off : (begun : Begun) → at < length text → ((w : Wanted) → next_mode (within w begun) (get_or text at 0) ≡ broken_mode) → NumberRead text at (λ w. within w begun) at (Err (record { place = at }))
   off begun h b = record { ended = tt; means = λ w f. leaves text at (within w begun) f h (b w) }
@@ -238,9 +250,6 @@ module _ (text : List ℕ) (at : ℕ) where
         }
 
 -- ---- a first byte
-
-pub first_minus : (b : ℕ) → b ≡ 45 → first_byte b ≡ minus_begun
-first_minus b e = ap first_byte e
 
 pub first_digit : (b : ℕ) → (b ≡ 45 → ⊥) → is_digit b ≡ true → first_byte b ≡ value_begun (plain (b - 48))
 first_digit b m d = rw (ne_eqb b 45 m, d) refl

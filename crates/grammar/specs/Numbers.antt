@@ -1,5 +1,5 @@
 -- A decimal number of 64 bits, a byte at a time (document 01, item 10).
-use Rattle.std.specs.Prelude.{Bool, true, false, cond, ◌&&◌, ℕ, zero, suc, ◌+◌, ◌-◌, ◌*◌, ◌^◌, eqb, leb, ltb, ℤ, pos, negsuc}
+use Rattle.std.specs.Prelude.{Bool, true, false, cond, ◌&&◌, ℕ, zero, suc, ◌+◌, ◌-◌, ◌*◌, ◌^◌, eqb, leb, ltb, ℤ, pos, negsuc, Option, Some, None}
 
 -- a number: −1 − size if it is below nought, else its size. Every number is one pair, and every pair one number
 pub record Whole : Type 0 where
@@ -55,3 +55,9 @@ abbrev pub next_digit : Begun → ℕ → Begun
 next_digit minus_begun d = negative d
 next_digit (value_begun w) d = after_value w d
 next_digit off_begun d = off_begun
+
+-- the number whose decimal text has been read, if it is one's
+abbrev pub begun_number : Begun → Option ℤ
+begun_number minus_begun = None
+begun_number (value_begun w) = Some (value_of w)
+begun_number off_begun = None

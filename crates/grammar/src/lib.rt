@@ -31,12 +31,10 @@ pub fn skip_spaces(text: &[u8], at: usize) -> usize
     requires { at ≤ length text.now }
     ensures { Skipped text.now at result }
 {
-    for place in at..text.len() {
-        if text[place] != b' ' {
-            return place;
-        }
+    match text[at..].iter().position(|&byte| byte != b' ') {
+        Some(spaces) => at + spaces,
+        None => text.len(),
     }
-    text.len()
 }
 
 /// A place of a text, and the byte there. There is none at the text's end.

@@ -1,45 +1,37 @@
 // A decimal number of 64 bits read from a text (document 01, item 10): no leading zero, plus sign or -0.
-ghost use Rattle.std.specs.Prelude.{◌≡◌, false, ◌+◌, ◌≤◌, ◌<◌, ◌^◌, length};
-ghost use Rattle.grammar.specs.Numbers.{value_of, plain, minus_begun, value_begun};
+ghost use Rattle.std.specs.Prelude.{◌≡◌, ◌+◌, ◌≤◌, pos, length};
+ghost use Rattle.grammar.specs.Numbers.{whole_of, plain, minus_begun, value_begun, next_digit, begun_number};
 ghost use Rattle.grammar.specs.Tokens.{wanting, within, NumberRead};
 
 use crate::{NextByte, OffGrammar, Read, next_byte};
 
-// The greatest size, 2^63 - 1.
-const GREATEST: u64 = i64::MAX as u64;
-
-// -1 - size if it is below nought, else size.
-fn signed(below: bool, size: u64) -> i64
-    requires { size < 2 ^ 63 }
-    ensures { result ≡ value_of (record { below = below; size = size }) }
+// The number whose text is this one's, which is not 0, and a digit behind it. `None` past 64 bits.
+fn with_digit(number: i64, digit: u8) -> Option<i64>
+    requires { (number ≡ pos 0 → ⊥) × (digit ≤ 9) }
+    ensures { result ≡ begun_number (next_digit (value_begun (whole_of number)) digit) }
 {
-    let plain = size as i64;
-    if below { -1 - plain } else { plain }
+    let tens = number.checked_mul(10)?;
+    if number < 0 {
+        tens.checked_sub_unsigned(u64::from(digit))
+    } else {
+        tens.checked_add_unsigned(u64::from(digit))
+    }
 }
 
-// The rest of a number whose text so far is that of -1 - size, if it is below nought, or else of size, which is then not 0.
-fn more_digits(text: &[u8], at: usize, below: bool, size: u64) -> Read<i64>
-    requires { (at ≤ length text.now) × (size < 2 ^ 63) × (below ≡ false → 0 < size) }
-    ensures { NumberRead text.now at (λ w. within w (value_begun (record { below = below; size = size }))) at result }
+// The rest of a number whose text so far is that of this one, which is not 0.
+fn more_digits(text: &[u8], at: usize, begun: i64) -> Read<i64>
+    requires { (at ≤ length text.now) × (begun ≡ pos 0 → ⊥) }
+    ensures { NumberRead text.now at (λ w. within w (value_begun (whole_of begun))) at result }
 {
-    // A digit d after a number n makes 10 n + d. Where n is -1 - size, that is -1 - (10 size + 9 + d).
-    let more = if below { 9 } else { 0 };
-    let mut worth = size;
+    let mut number = begun;
     for place in at..text.len() {
         let byte = text[place];
         if !byte.is_ascii_digit() {
-            return Ok((signed(below, worth), place));
+            return Ok((number, place));
         }
-        if GREATEST / 10 < worth {
-            return Err(OffGrammar { place });
-        }
-        let grown = worth * 10 + more + (byte - b'0') as u64;
-        if GREATEST < grown {
-            return Err(OffGrammar { place });
-        }
-        worth = grown;
+        number = with_digit(number, byte - b'0').ok_or(OffGrammar { place })?;
     }
-    Ok((signed(below, worth), text.len()))
+    Ok((number, text.len()))
 }
 
 // The rest of a number behind its minus: a digit that is not 0 comes first.
@@ -48,7 +40,7 @@ fn after_minus(text: &[u8], at: usize) -> Read<i64>
     ensures { NumberRead text.now at (λ w. within w minus_begun) at result }
 {
     match text.get(at) {
-        Some(&digit @ b'1'..=b'9') => more_digits(text, at + 1, true, (digit - b'1') as u64),
+        Some(&digit @ b'1'..=b'9') => more_digits(text, at + 1, -i64::from(digit - b'0')),
         _ => Err(OffGrammar { place: at }),
     }
 }
@@ -73,7 +65,7 @@ pub fn number(text: &[u8], at: usize) -> Read<i64>
     match byte {
         Some(b'-') => after_minus(text, start + 1),
         Some(b'0') => after_zero(text, start + 1),
-        Some(digit @ b'1'..=b'9') => more_digits(text, start + 1, false, (digit - b'0') as u64),
+        Some(digit @ b'1'..=b'9') => more_digits(text, start + 1, i64::from(digit - b'0')),
         _ => Err(OffGrammar { place: start }),
     }
 }

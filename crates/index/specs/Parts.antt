@@ -1,5 +1,7 @@
 -- The node table: parts of the edge list and places of children (document 01, item 5).
-use Rattle.std.specs.Prelude.{◌≡◌, cond, List, [], ◌∷◌, ℕ, zero, suc, ◌+◌, ◌-◌, ◌/◌, ◌≤◌, ◌<◌, leb, get_or}
+use Rattle.std.specs.Prelude.{◌≡◌, cond, List, [], ◌∷◌, ℕ, zero, suc, ◌+◌, ◌-◌, ◌/◌, ◌≤◌, ◌<◌, leb, get_or, Option, Some, None, Result, Ok, Err}
+use Rattle.rules.specs.declared.Unsound.{Unsound}
+use Rattle.index.specs.declared.parts.Part.{Part}
 
 -- a node's part of the edge list, and the place of its left child; its right child stands next to that
 abbrev pub first_at : List (List ℕ) → ℕ → ℕ
@@ -36,3 +38,23 @@ cut_size m = cond (leb m 8) 0 m
 unfoldable pub cut_edges : List (List ℕ) → ℕ → ℕ
 cut_edges parts zero = 0
 cut_edges parts (suc k) = cut_edges parts k + cut_size (count_at parts k)
+
+-- ---- one node, on any tables
+
+-- a row of the table as a part
+abbrev pub part_of_row : List ℕ → Part
+part_of_row row = record { first = get_or row 0 0; count = get_or row 1 0; child = get_or row 2 0 }
+
+-- node p is one of the first `nodes`, and its part ends within the n edges
+abbrev pub Inside : List (List ℕ) → ℕ → ℕ → ℕ → Type 0
+Inside parts n nodes p = (p < nodes) × (first_at parts p + count_at parts p ≤ n)
+
+abbrev pub PartSays : List (List ℕ) → ℕ → ℕ → ℕ → Result Part Unsound → Type 0
+PartSays parts n nodes p (Ok part) = Inside parts n nodes p × (part ≡ part_of_row (get_or parts p []))
+PartSays parts n nodes p (Err _) = Inside parts n nodes p → ⊥
+
+-- a part of more than 8 edges is cut: `None` is a leaf's child
+abbrev pub ChildSays : ℕ → Part → Result (Option ℕ) Unsound → Type 0
+ChildSays nodes part (Ok None) = part.count ≤ 8
+ChildSays nodes part (Ok (Some child)) = (8 < part.count) × (child ≡ part.child) × (child + 1 < nodes)
+ChildSays nodes part (Err _) = (8 < part.count) × (nodes ≤ part.child + 1)

@@ -1,12 +1,13 @@
 // The tables of the hierarchy, built in one pass: a stack of the nodes that are still to be looked at, of which there are never more
 // than 18.
-ghost use Rattle.std.specs.Prelude.{◌≡◌, ◌+◌, ◌<◌, ◌≤◌, length, set};
+ghost use Rattle.std.specs.Prelude.{◌≡◌, ◌+◌, ◌-◌, ◌/◌, ◌<◌, ◌≤◌, length, set};
 ghost use Rattle.rules.specs.Nodes.{node_count};
 ghost use Rattle.boxes.specs.Rings.{RingEnds, CornersNear};
 ghost use Rattle.boxes.specs.Boxes.{rect_at, Names, NearRect};
 ghost use Rattle.index.specs.Parts.{first_at, count_at, part_row};
 ghost use Rattle.index.specs.Build.{Numbered, Two, Children, NodeCut, Built};
 
+use crate::parts::Part;
 use boxes::{part_box, put_rect, rect_at};
 use cut::keys::{axis_of, cut_part};
 use geom::Rect;
@@ -22,8 +23,8 @@ fn number(edges: &mut [usize], n: usize)
     requires { n ≤ length edges.old }
     ensures { Numbered n edges.old edges.new }
 {
-    for i in 0..n {
-        edges[i] = i;
+    for (i, edge) in edges[..n].iter_mut().enumerate() {
+        *edge = i;
     }
 }
 
@@ -44,28 +45,30 @@ fn put_part(parts: &mut [[usize; 3]], p: usize, first: usize, count: usize, chil
     parts[p] = [first, count, child];
 }
 
-// Stores the two parts of node p, which has the places from `first` on: the left one at place l, the right one at place r.
+// Cuts the part of node p at its middle: the boxes and parts of its two children stand at its left child's place and the next.
 fn put_children(
     boxes: &mut [[i64; 4]],
     parts: &mut [[usize; 3]],
     p: usize,
-    l: usize,
-    r: usize,
-    first: usize,
-    half: usize,
-    rest: usize,
+    part: Part,
     left: Rect,
     right: Rect,
 )
-    requires p_in_bounds { (p < length parts.old) × (l < length parts.old) × (r < length parts.old) × (l < length boxes.old) × (r < length boxes.old) }
-    requires rest_bound { first + (half + rest) ≤ 1048576 }
-    ensures { Children boxes.old parts.old p l r first half rest left right boxes.new parts.new }
+    requires p_in_bounds { (p < length parts.old) × (part.child + 1 < length parts.old) × (part.child + 1 < length boxes.old) }
+    requires part_bound { part.first + part.count ≤ 1048576 }
+    ensures { Children boxes.old parts.old p part.child (part.child + 1) part.first (part.count / 2) (part.count - part.count / 2) left right boxes.new parts.new }
 {
-    put_rect(boxes, l, left);
-    put_rect(boxes, r, right);
-    put_part(parts, p, first, half + rest, l);
-    put_part(parts, l, first, half, 0);
-    put_part(parts, r, first + half, rest, 0);
+    let Part {
+        first,
+        count,
+        child,
+    } = part;
+    let half = count / 2;
+    put_rect(boxes, child, left);
+    put_rect(boxes, child + 1, right);
+    put_part(parts, p, first, count, child);
+    put_part(parts, child, first, half, 0);
+    put_part(parts, child + 1, first + half, count - half, 0);
 }
 
 // Cuts node p, puts its two parts at the next free places, and returns how many keys it compared.
@@ -95,18 +98,12 @@ fn cut_node(
     let reads = cut_part(corners, rings, edges, n, count, axis, first, size);
     let left = part_box(corners, rings, edges, n, count, first, half);
     let right = part_box(corners, rings, edges, n, count, first + half, rest);
-    put_children(
-        boxes,
-        parts,
-        p,
-        free,
-        free + 1,
+    let part = Part {
         first,
-        half,
-        rest,
-        left,
-        right,
-    );
+        count: size,
+        child: free,
+    };
+    put_children(boxes, parts, p, part, left, right);
     reads
 }
 
@@ -139,6 +136,7 @@ pub fn build(
     let whole = part_box(corners, rings, edges, n, count, 0, n);
     put_rect(boxes, 0, whole);
     put_part(parts, 0, 0, n, 0);
+    // an array and no vector: `push` serves the walk too, whose stack is an array that the caller lends
     let mut waiting: [usize; STACK] = [0; STACK];
     let mut top: usize = 1;
     let mut free: usize = 1;

@@ -4,3 +4,5 @@
 pub mod build;
 /// The number of nodes, N(n).
 pub mod count;
+/// One node of the table of parts.
+pub mod parts;

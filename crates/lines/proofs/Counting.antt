@@ -9,7 +9,7 @@ use lib.ListN.{length, length-append}
 use Rattle.rules.specs.declared.Kind.TheVariants.{Polygons}
 use Rattle.rules.specs.Plans.{Plan}
 use Rattle.lines.specs.declared.records.Record.{Record}
-use Rattle.lines.specs.declared.records.Record.TheVariants.{Header, Outer, Hole, Node, Corner, Malformed}
+use Rattle.lines.specs.declared.records.Record.TheVariants.{Header, Outer, Hole, Node, Corner}
 use Rattle.std.specs.Prelude.{Option, Some, None, Ok, option_map}
 use Rattle.lines.specs.Plans.{Meaning, start_meaning, gives_meaning, broken_meaning, size_of, empty_plan, last_one_more, grown, is_header, allowed, after_line}
 use Rattle.lines.specs.Steps.{size_after, bad_line, stage_of, stage_after}
@@ -36,7 +36,6 @@ size_grown plan (Corner p) =
     let e = two_longer plan.coordinates p.x p.y in
     let half : length plan.coordinates / 2 + 1 ≡ length (plan.coordinates ++ p.x ∷ p.y ∷ []) / 2 = omega arith in
     ap₂ (λ n r. record { kind = plan.kind; corners = n; rings = r; polygons = length plan.counts }) half (sym (as_long plan.lengths))
-size_grown plan Malformed = refl
 
 by_test : (b : Bool) (x y : Meaning) → cond b (stage_of x) (stage_of y) ≡ stage_of (cond b x y)
 by_test true x y = refl
@@ -47,10 +46,12 @@ abbrev pub unbroken : Option Plan → Meaning
 unbroken None = start_meaning
 unbroken (Some plan) = gives_meaning plan
 
-pub stage_after_lem : (k : ℕ) (so_far : Option Plan) (row : Record) → stage_after k (option_map size_of so_far) row ≡ stage_of (after_line k (unbroken so_far) row)
-stage_after_lem k None row =
+pub stage_after_lem : (k : ℕ) (so_far : Option Plan) (said : Option Record) → stage_after k (option_map size_of so_far) said ≡ stage_of (after_line k (unbroken so_far) said)
+stage_after_lem k None (Some row) =
     ap (λ counts. cond (is_header row) (Ok counts) (bad_line k)) (size_grown (empty_plan Polygons) row)
     ∙ by_test (is_header row) (gives_meaning (grown (empty_plan Polygons) row)) (broken_meaning k)
-stage_after_lem k (Some plan) row =
+stage_after_lem k (Some plan) (Some row) =
     ap (λ counts. cond (allowed (size_of plan) row) (Ok counts) (bad_line k)) (size_grown plan row)
     ∙ by_test (allowed (size_of plan) row) (gives_meaning (grown plan row)) (broken_meaning k)
+stage_after_lem k None None = refl
+stage_after_lem k (Some plan) None = refl

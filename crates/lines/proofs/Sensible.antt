@@ -6,13 +6,14 @@ use Prim.Native.Nat.{ℕ, zero, suc, ◌+◌, ◌*◌, ◌≤◌, ◌<◌}
 use native.Mathlib.Omega.{arith}
 use lib.Dec.{eqb, ltb, eqb-suc-zero}
 use lib.ListN.{length, get_or}
+use Rattle.std.specs.Prelude.{Option, Some, None}
 use borrow.Author.Tests.{ltb-true}
 use Rattle.fields.specs.Pieces.{split}
 use Rattle.rules.specs.declared.Kind.TheVariants.{Polygons}
 use Rattle.rules.specs.Lists.{any_of, total}
 use Rattle.rules.specs.Plans.{Plan, is_list}
 use Rattle.lines.specs.declared.records.Record.{Record}
-use Rattle.lines.specs.declared.records.Record.TheVariants.{Header, Outer, Hole, Node, Corner, Malformed}
+use Rattle.lines.specs.declared.records.Record.TheVariants.{Header, Outer, Hole, Node, Corner}
 use Rattle.lines.specs.Records.{record_of}
 use Rattle.lines.specs.Plans.{Meaning, start_meaning, gives_meaning, broken_meaning, size_of, empty_plan, last_one_more, grown, is_header, allowed, after_line, at_end, after_lines, meaning}
 use Rattle.lines.proofs.Counting.{one_longer, two_longer, as_long}
@@ -95,7 +96,7 @@ wrong : {A : Type 0} (b : Bool) → b ≡ true → b ≡ false → A
 wrong b e h = absurd (true≢false (sym e ∙ h))
 
 -- an allowed line keeps it so
-pub still_sensible : (n size : ℕ) (plan : Plan) (row : Record) → allowed (size_of plan) row ≡ true → Sensible n plan → least row ≤ size → Sensible (n + size + 1) (grown plan row)
+pub still_sensible : (n size : ℕ) (plan : Plan) (row : Record) → allowed (size_of plan) row ≡ true → Sensible n plan → least (Some row) ≤ size → Sensible (n + size + 1) (grown plan row)
 unfolding grown
 still_sensible n size plan (Header kind) ok g h = wrong false ok refl
 still_sensible n size plan Outer ok g h =
@@ -146,17 +147,15 @@ still_sensible n size plan (Corner p) ok g h =
       polygons = g.polygons;
       no_polygons = g.no_polygons;
     }
-still_sensible n size plan Malformed ok g h = wrong false ok refl
 
 -- a header begins it
-pub sensible_start : (n size : ℕ) (plan : Plan) (row : Record) → is_header row ≡ true → least row ≤ size → Sensible (n + size + 1) (grown plan row)
+pub sensible_start : (n size : ℕ) (plan : Plan) (row : Record) → is_header row ≡ true → least (Some row) ≤ size → Sensible (n + size + 1) (grown plan row)
 unfolding grown total any_of
 sensible_start n size plan (Header kind) ok h = record { bytes = omega arith; even = refl; rings = λ e. refl; polygons = refl; no_polygons = λ e. refl }
 sensible_start n size plan Outer ok h = wrong false ok refl
 sensible_start n size plan Hole ok h = wrong false ok refl
 sensible_start n size plan Node ok h = wrong false ok refl
 sensible_start n size plan (Corner p) ok h = wrong false ok refl
-sensible_start n size plan Malformed ok h = wrong false ok refl
 
 -- ---- the meaning so far
 
@@ -165,18 +164,20 @@ Fine n start_meaning = Unit {0}
 Fine n (gives_meaning plan) = Sensible n plan
 Fine n (broken_meaning line) = Unit {0}
 
-pub fine_line : (k n size : ℕ) (so_far : Meaning) (row : Record) → Fine n so_far → least row ≤ size → Fine (n + size + 1) (after_line k so_far row)
-fine_line k n size start_meaning row g h = go (is_header row) refl
+pub fine_line : (k n size : ℕ) (so_far : Meaning) (said : Option Record) → Fine n so_far → least said ≤ size → Fine (n + size + 1) (after_line k so_far said)
+fine_line k n size start_meaning None g h = tt
+fine_line k n size start_meaning (Some row) g h = go (is_header row) refl
   where
     go : (b : Bool) → is_header row ≡ b → Fine (n + size + 1) (cond b (gives_meaning (grown (empty_plan Polygons) row)) (broken_meaning k))
     go true e = sensible_start n size (empty_plan Polygons) row e h
     go false e = tt
-fine_line k n size (gives_meaning plan) row g h = go (allowed (size_of plan) row) refl
+fine_line k n size (gives_meaning plan) None g h = tt
+fine_line k n size (gives_meaning plan) (Some row) g h = go (allowed (size_of plan) row) refl
   where
     go : (b : Bool) → allowed (size_of plan) row ≡ b → Fine (n + size + 1) (cond b (gives_meaning (grown plan row)) (broken_meaning k))
     go true e = still_sensible n size plan row e g h
     go false e = tt
-fine_line k n size (broken_meaning j) row g h = tt
+fine_line k n size (broken_meaning j) said g h = tt
 
 more_bytes : (n m : ℕ) (plan : Plan) → n ≤ m → Sensible n plan → Sensible m plan
 more_bytes n m plan h g = record { bytes = omega (arith, g.bytes); even = g.even; rings = g.rings; polygons = g.polygons; no_polygons = g.no_polygons }

@@ -7,16 +7,16 @@ use native.Mathlib.Omega.{arith}
 use lib.Dec.{eqb}
 use lib.IntN.{ℤ}
 use lib.ListN.{length}
-use Rattle.std.specs.Prelude.{Option, Some, None}
+use Rattle.std.specs.Prelude.{Option, Some, None, option_map}
 use Rattle.fields.specs.Bytes.{same_bytes}
 use Rattle.fields.specs.Decimals.{number_of}
 use Rattle.fields.specs.Pieces.{before, split}
 use Rattle.fields.proofs.Bytes.{same_equal}
 use Rattle.fields.proofs.Numbers.{no_number}
 use Rattle.lines.specs.declared.records.Record.{Record}
-use Rattle.lines.specs.declared.records.Record.TheVariants.{Header, Outer, Hole, Node, Corner, Malformed}
+use Rattle.lines.specs.declared.records.Record.TheVariants.{Header, Outer, Hole, Node, Corner}
 use Rattle.lines.specs.Words.{plan, list, tree, outer, hole, node, at}
-use Rattle.lines.specs.Records.{one_field, two_fields, corner_from, three_fields, record_of}
+use Rattle.lines.specs.Records.{one_field, two_fields, point_from, point_of, three_fields, record_of}
 use Rattle.fields.proofs.Pieces.{Pieces, some_piece}
 
 -- ---- pieces with a separator between each two
@@ -45,20 +45,20 @@ span_split separator (x ∷ xs) = go (eqb x separator) (some_piece separator xs)
 
 -- ---- the least bytes of a line
 
-abbrev pub least : Record → ℕ
-least (Header kind) = 4
-least Outer = 5
-least Hole = 4
-least Node = 4
-least (Corner p) = 6
-least Malformed = 0
+abbrev pub least : Option Record → ℕ
+least (Some (Header kind)) = 4
+least (Some Outer) = 5
+least (Some Hole) = 4
+least (Some Node) = 4
+least (Some (Corner p)) = 6
+least None = 0
 
 -- a word that was compared with success is as long as what it was compared with
 word_length : (word fixed : List ℕ) → same_bytes word fixed ≡ true → length word ≡ length fixed
 word_length word fixed e = ap length (same_equal word fixed e)
 
 -- a line that starts with this word and is long enough for what it then says, or says something else
-by_word : (word fixed : List ℕ) (row other : Record) (n : ℕ) → (length word ≡ length fixed → least row ≤ n) → least other ≤ n → least (cond (same_bytes word fixed) row other) ≤ n
+by_word : (word fixed : List ℕ) (row other : Option Record) (n : ℕ) → (length word ≡ length fixed → least row ≤ n) → least other ≤ n → least (cond (same_bytes word fixed) row other) ≤ n
 by_word word fixed row other n long rest = go (same_bytes word fixed) refl
   where
     go : (b : Bool) → same_bytes word fixed ≡ b → least (cond b row other) ≤ n
@@ -85,14 +85,14 @@ number_long [] z e = absurd (unread (no_number [] refl ∙ e))
     unread p = let one : ◌≡◌ {A = ℕ} 0 1 = cc in omega arith
 number_long (x ∷ field) z e = omega arith
 
-corner_long : (x y : List ℕ) (m n : Option ℤ) → number_of x ≡ m → number_of y ≡ n → least (corner_from m n) ≤ 4 + length x + length y
+corner_long : (x y : List ℕ) (m n : Option ℤ) → number_of x ≡ m → number_of y ≡ n → least (option_map Corner (point_from m n)) ≤ 4 + length x + length y
 corner_long x y (Some a) (Some b) p q = let j = number_long x a p in let k = number_long y b q in omega arith
 corner_long x y (Some a) None p q = omega arith
 corner_long x y None (Some b) p q = omega arith
 corner_long x y None None p q = omega arith
 
 three_words : (word x y : List ℕ) → least (three_fields word x y) ≤ length word + 1 + (length x + 1 + length y)
-unfolding three_fields
+unfolding three_fields point_of
 three_words word x y = by_word word at _ _ (length word + 1 + (length x + 1 + length y)) (λ l. let c = corner_long x y (number_of x) (number_of y) refl refl in omega arith) (omega arith)
 
 by_fields : (fields : List (List ℕ)) → least (record_of fields) ≤ span fields

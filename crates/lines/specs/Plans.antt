@@ -1,11 +1,11 @@
 -- The meaning of a text: each line in turn carries the plan on, or is the first that breaks a rule (document 01, item 10).
-use Rattle.std.specs.Prelude.{Bool, true, false, not, cond, ◌&&◌, List, [], ◌∷◌, ◌++◌, ℕ, suc, ltb, length}
+use Rattle.std.specs.Prelude.{Bool, true, false, not, cond, ◌&&◌, List, [], ◌∷◌, ◌++◌, ℕ, suc, ltb, length, Option, Some, None}
 use Rattle.fields.specs.Pieces.{split}
 use Rattle.rules.specs.declared.Kind.{Kind}
 use Rattle.rules.specs.declared.Kind.TheVariants.{Polygons}
 use Rattle.rules.specs.Plans.{Plan, is_list, corner_count}
 use Rattle.lines.specs.declared.records.Record.{Record}
-use Rattle.lines.specs.declared.records.Record.TheVariants.{Header, Outer, Hole, Node, Corner, Malformed}
+use Rattle.lines.specs.declared.records.Record.TheVariants.{Header, Outer, Hole, Node, Corner}
 use Rattle.lines.specs.declared.Size.{Size}
 use Rattle.lines.specs.Records.{record_of}
 
@@ -32,7 +32,6 @@ grown plan Outer = record { kind = plan.kind; coordinates = plan.coordinates; le
 grown plan Hole = record { kind = plan.kind; coordinates = plan.coordinates; lengths = plan.lengths ++ 0 ∷ []; counts = last_one_more plan.counts }
 grown plan Node = record { kind = plan.kind; coordinates = plan.coordinates; lengths = plan.lengths ++ 0 ∷ []; counts = plan.counts }
 grown plan (Corner p) = record { kind = plan.kind; coordinates = plan.coordinates ++ p.x ∷ p.y ∷ []; lengths = last_one_more plan.lengths; counts = plan.counts }
-grown plan Malformed = plan
 
 -- ---- which lines may come
 
@@ -43,7 +42,6 @@ is_header Outer = false
 is_header Hole = false
 is_header Node = false
 is_header (Corner p) = false
-is_header Malformed = false
 
 -- after it: `outer` and `hole` in lists, `node` in trees; a hole needs an earlier outer, a corner an open ring
 abbrev pub allowed : Size → Record → Bool
@@ -52,7 +50,6 @@ allowed so_far Outer = is_list so_far.kind
 allowed so_far Hole = is_list so_far.kind && ltb 0 so_far.polygons
 allowed so_far Node = not (is_list so_far.kind)
 allowed so_far (Corner p) = ltb 0 so_far.rings
-allowed so_far Malformed = false
 
 -- ---- line by line
 
@@ -62,10 +59,12 @@ pub data Meaning : Type 0 where
   gives_meaning : Plan → Meaning
   broken_meaning : ℕ → Meaning
 
--- line k, ended by byte 10
-abbrev pub after_line : ℕ → Meaning → Record → Meaning
-after_line k start_meaning line = cond (is_header line) (gives_meaning (grown (empty_plan Polygons) line)) (broken_meaning k)
-after_line k (gives_meaning plan) line = cond (allowed (size_of plan) line) (gives_meaning (grown plan line)) (broken_meaning k)
+-- line k, ended by byte 10, by what it says; a line off the format breaks a rule
+abbrev pub after_line : ℕ → Meaning → Option Record → Meaning
+after_line k start_meaning (Some line) = cond (is_header line) (gives_meaning (grown (empty_plan Polygons) line)) (broken_meaning k)
+after_line k start_meaning None = broken_meaning k
+after_line k (gives_meaning plan) (Some line) = cond (allowed (size_of plan) line) (gives_meaning (grown plan line)) (broken_meaning k)
+after_line k (gives_meaning plan) None = broken_meaning k
 after_line k (broken_meaning j) line = broken_meaning j
 
 -- what stands after the last line end: nothing, or an unended line k, which breaks a rule; so does a text without a header

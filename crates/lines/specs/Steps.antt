@@ -3,7 +3,7 @@ use Rattle.std.specs.Prelude.{◌≡◌, cond, List, ℕ, ◌+◌, ◌-◌, ◌*
 use Rattle.rules.specs.declared.Kind.{Kind}
 use Rattle.rules.specs.declared.Kind.TheVariants.{Polygons}
 use Rattle.lines.specs.declared.records.Record.{Record}
-use Rattle.lines.specs.declared.records.Record.TheVariants.{Header, Outer, Hole, Node, Corner, Malformed}
+use Rattle.lines.specs.declared.records.Record.TheVariants.{Header, Outer, Hole, Node, Corner}
 use Rattle.lines.specs.declared.Size.{Size}
 use Rattle.lines.specs.declared.stages.BadLine.{BadLine}
 use Rattle.lines.specs.Plans.{Meaning, start_meaning, gives_meaning, broken_meaning, size_of, is_header, allowed}
@@ -19,7 +19,6 @@ size_after so_far Outer = record { kind = so_far.kind; corners = so_far.corners;
 size_after so_far Hole = record { kind = so_far.kind; corners = so_far.corners; rings = so_far.rings + 1; polygons = so_far.polygons }
 size_after so_far Node = record { kind = so_far.kind; corners = so_far.corners; rings = so_far.rings + 1; polygons = so_far.polygons }
 size_after so_far (Corner p) = record { kind = so_far.kind; corners = so_far.corners + 1; rings = so_far.rings; polygons = so_far.polygons }
-size_after so_far Malformed = so_far
 
 -- refusal 2 of a meaning, and its line
 abbrev pub broken_number : Meaning → ℕ
@@ -57,10 +56,11 @@ pub record Judged (m : Meaning) (r : Result Size BadLine) : Type 0 where
   pub number : stage_number r ≡ broken_number m
   pub detail : stage_detail r ≡ broken_line m
 
--- line k, ended, after a plan of this size or before the first line
-abbrev pub stage_after : ℕ → Option Size → Record → Result Size BadLine
-stage_after k None line = cond (is_header line) (Ok (size_after (empty_size Polygons) line)) (bad_line k)
-stage_after k (Some size) line = cond (allowed size line) (Ok (size_after size line)) (bad_line k)
+-- line k, ended, which says this, after a plan of this size or before the first line
+abbrev pub stage_after : ℕ → Option Size → Option Record → Result Size BadLine
+stage_after k None (Some line) = cond (is_header line) (Ok (size_after (empty_size Polygons) line)) (bad_line k)
+stage_after k (Some size) (Some line) = cond (allowed size line) (Ok (size_after size line)) (bad_line k)
+stage_after k so_far None = bad_line k
 
 -- a size that can be counted on
 abbrev pub Countable : Size → Type 0
@@ -93,7 +93,6 @@ corners_with n Outer table = table
 corners_with n Hole table = table
 corners_with n Node table = table
 corners_with n (Corner p) table = set (set table (2 * n) p.x) (2 * n + 1) p.y
-corners_with n Malformed table = table
 
 -- a corner has a place
 abbrev pub CornerRoom : ℕ → Record → List ℤ → Type 0
@@ -102,7 +101,6 @@ CornerRoom n Outer table = Unit {0}
 CornerRoom n Hole table = Unit {0}
 CornerRoom n Node table = Unit {0}
 CornerRoom n (Corner p) table = 2 * n + 1 < length table
-CornerRoom n Malformed table = Unit {0}
 
 -- the ring table after a line, which held n rings
 abbrev pub lengths_with : ℕ → Record → List ℕ → List ℕ
@@ -111,7 +109,6 @@ lengths_with n Outer table = set table n 0
 lengths_with n Hole table = set table n 0
 lengths_with n Node table = set table n 0
 lengths_with n (Corner p) table = one_more_before n table
-lengths_with n Malformed table = table
 
 -- a ring has a place, and a corner a ring
 abbrev pub LengthRoom : ℕ → Record → List ℕ → Type 0
@@ -120,7 +117,6 @@ LengthRoom n Outer table = n < length table
 LengthRoom n Hole table = n < length table
 LengthRoom n Node table = n < length table
 LengthRoom n (Corner p) table = RoomBefore n table
-LengthRoom n Malformed table = Unit {0}
 
 -- the polygon table after a line, which held n polygons
 abbrev pub counts_with : ℕ → Record → List ℕ → List ℕ
@@ -129,7 +125,6 @@ counts_with n Outer table = set table n 1
 counts_with n Hole table = one_more_before n table
 counts_with n Node table = table
 counts_with n (Corner p) table = table
-counts_with n Malformed table = table
 
 -- a polygon has a place, and a hole a polygon
 abbrev pub CountRoom : ℕ → Record → List ℕ → Type 0
@@ -138,4 +133,3 @@ CountRoom n Outer table = n < length table
 CountRoom n Hole table = RoomBefore n table
 CountRoom n Node table = Unit {0}
 CountRoom n (Corner p) table = Unit {0}
-CountRoom n Malformed table = Unit {0}

@@ -6,8 +6,8 @@ ghost use Rattle.lines.specs.Steps.{Countable, SoFarCountable, empty_size, size_
 
 use crate::Size;
 use crate::records::{Record, read_record};
-use fields::split_once;
-use rules::{Kind, Refusal, is_list};
+use fields::lines::Lines;
+use rules::{Kind, Refusal};
 
 /// 2: the first line that breaks a rule, counted from 1. It is line 1 of an empty text.
 #[derive(Clone, Copy, PartialEq, Eq, Debug)]
@@ -28,11 +28,11 @@ fn allowed(size: Size, row: Record) -> bool
     ensures { result ≡ allowed size row }
 {
     match row {
-        Record::Outer => is_list(size.kind),
-        Record::Hole => is_list(size.kind) && 0 < size.polygons,
-        Record::Node => !is_list(size.kind),
+        Record::Outer => size.kind == Kind::Polygons,
+        Record::Hole => size.kind == Kind::Polygons && 0 < size.polygons,
+        Record::Node => size.kind == Kind::Tree,
         Record::Corner(_) => 0 < size.rings,
-        Record::Header(_) | Record::Malformed => false,
+        Record::Header(_) => false,
     }
 }
 
@@ -68,18 +68,17 @@ pub(crate) fn counted(size: Size, row: Record) -> Size
             corners: size.corners + 1,
             ..size
         },
-        Record::Malformed => size,
     }
 }
 
-// The size after a line that is ended: of the plan that it carries on, or begins where there is none so far.
-fn after_line(so_far: Option<Size>, row: Record, line: usize) -> Result<Size, BadLine>
+// The size after a line that is ended and says this: of the plan that it carries on, or begins where there is none so far.
+fn after_line(so_far: Option<Size>, said: Option<Record>, line: usize) -> Result<Size, BadLine>
     requires { SoFarCountable so_far }
-    ensures { result ≡ stage_after line so_far row }
+    ensures { result ≡ stage_after line so_far said }
 {
-    match (so_far, row) {
-        (None, Record::Header(kind)) => Ok(empty_size(kind)),
-        (Some(size), _) if allowed(size, row) => Ok(counted(size, row)),
+    match (so_far, said) {
+        (None, Some(Record::Header(kind))) => Ok(empty_size(kind)),
+        (Some(size), Some(row)) if allowed(size, row) => Ok(counted(size, row)),
         _ => Err(BadLine { line }),
     }
 }
@@ -90,15 +89,9 @@ pub fn judge(text: &[u8]) -> Result<Size, BadLine>
     ensures { Judged (meaning text.now) result }
 {
     let mut so_far = None;
-    let mut line = 1;
-    let mut rest = text;
-    while let Some((row, after)) = split_once(rest, b'\n') {
-        so_far = Some(after_line(so_far, read_record(row), line)?);
-        line += 1;
-        rest = after;
+    for (k, line) in Lines::of(text).enumerate() {
+        let said = line.ended().and_then(read_record);
+        so_far = Some(after_line(so_far, said, k + 1)?);
     }
-    match so_far {
-        Some(size) if rest.is_empty() => Ok(size),
-        _ => Err(BadLine { line }),
-    }
+    so_far.ok_or(BadLine { line: 1 })
 }

@@ -1,13 +1,14 @@
 // The plan of a text written into the lent tables (document 01, item 10), once it is known that the text gives a plan and that there is room.
-ghost use Rattle.std.specs.Prelude.{◌≡◌, ◌+◌, ◌*◌, ◌≤◌, ◌<◌, length, set};
+ghost use Rattle.std.specs.Prelude.{◌≡◌, ◌≤◌, length};
 ghost use Rattle.lines.specs.Steps.{one_more_before, RoomBefore, corners_with, CornerRoom, lengths_with, LengthRoom, counts_with, CountRoom, Ready};
 ghost use Rattle.lines.specs.Plans.{meaning};
 ghost use Rattle.lines.specs.Stored.{plan_in, starting_with};
 
+use crate::Size;
 use crate::records::{Record, read_record};
 use crate::stages::{counted, empty_size};
-use fields::split_once;
-use geom::Point;
+use fields::lines::Lines;
+use plans::put_corner;
 use rules::Kind;
 
 // One more at the last of a table's first n places.
@@ -18,46 +19,27 @@ fn add_one(table: &mut [usize], n: usize)
     table[n - 1] += 1;
 }
 
-// Corner n of a coordinate table.
-fn store_corner(corners: &mut [i64], n: usize, p: Point)
-    requires { 2 * n + 1 < length corners.old }
-    ensures { corners.new ≡ set (set corners.old (2 * n) p.x) (2 * n + 1) p.y }
-{
-    corners[2 * n] = p.x;
-    corners[2 * n + 1] = p.y;
-}
-
-// A corner goes after n others.
-fn put_corner(corners: &mut [i64], n: usize, row: Record)
-    requires { CornerRoom n row corners.old }
-    ensures { corners.new ≡ corners_with n row corners.old }
-{
-    if let Record::Corner(p) = row {
-        store_corner(corners, n, p);
-    }
-}
-
-// A ring goes after n others, with no corners yet; a corner counts for the last ring.
-fn put_length(lengths: &mut [usize], n: usize, row: Record)
-    requires { LengthRoom n row lengths.old }
-    ensures { lengths.new ≡ lengths_with n row lengths.old }
+// What a line adds goes after what the tables hold: a corner counts for the last ring, a ring starts with no corners, and a hole counts for the
+// last polygon. The tables are no struct: of one that holds three `&mut` each function would promise besides that the three references stay.
+fn store(row: Record, held: Size, corners: &mut [i64], lengths: &mut [usize], counts: &mut [usize])
+    requires { CornerRoom held.corners row corners.old × LengthRoom held.rings row lengths.old × CountRoom held.polygons row counts.old }
+    ensures { (corners.new ≡ corners_with held.corners row corners.old) × (lengths.new ≡ lengths_with held.rings row lengths.old) × (counts.new ≡ counts_with held.polygons row counts.old) }
 {
     match row {
-        Record::Outer | Record::Hole | Record::Node => lengths[n] = 0,
-        Record::Corner(_) => add_one(lengths, n),
-        Record::Header(_) | Record::Malformed => {}
-    }
-}
-
-// A polygon goes after n others, with its outer ring; a hole counts for the last polygon.
-fn put_count(counts: &mut [usize], n: usize, row: Record)
-    requires { CountRoom n row counts.old }
-    ensures { counts.new ≡ counts_with n row counts.old }
-{
-    match row {
-        Record::Outer => counts[n] = 1,
-        Record::Hole => add_one(counts, n),
-        Record::Header(_) | Record::Node | Record::Corner(_) | Record::Malformed => {}
+        Record::Header(_) => {}
+        Record::Outer => {
+            lengths[held.rings] = 0;
+            counts[held.polygons] = 1;
+        }
+        Record::Hole => {
+            lengths[held.rings] = 0;
+            add_one(counts, held.polygons);
+        }
+        Record::Node => lengths[held.rings] = 0,
+        Record::Corner(p) => {
+            put_corner(corners, held.corners, p);
+            add_one(lengths, held.rings);
+        }
     }
 }
 
@@ -67,13 +49,10 @@ pub fn write_plan(text: &[u8], corners: &mut [i64], lengths: &mut [usize], count
     ensures { (corners.new ≡ starting_with (plan_in (meaning text.now)).coordinates corners.old) × (lengths.new ≡ starting_with (plan_in (meaning text.now)).lengths lengths.old) × (counts.new ≡ starting_with (plan_in (meaning text.now)).counts counts.old) }
 {
     let mut done = empty_size(Kind::Polygons);
-    let mut rest = text;
-    while let Some((line, after)) = split_once(rest, b'\n') {
-        let row = read_record(line);
-        put_corner(corners, done.corners, row);
-        put_length(lengths, done.rings, row);
-        put_count(counts, done.polygons, row);
-        done = counted(done, row);
-        rest = after;
+    for line in Lines::of(text) {
+        if let Some(row) = line.ended().and_then(read_record) {
+            store(row, done, corners, lengths, counts);
+            done = counted(done, row);
+        }
     }
 }

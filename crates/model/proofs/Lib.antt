@@ -1,7 +1,6 @@
 pub mod Corners
 pub mod Ways
 pub mod Tables
-pub mod Named
 pub mod Theorem
 pub mod Runs
 pub mod Marked

@@ -10,7 +10,6 @@ use lib.ListN.{length, get_or, set, take, length-set}
 use lib.Seq.{get_or-set_same, get_or-set_other, length-take-le}
 use Rattle.geom.specs.declared.Point.{Point}
 use Rattle.geom.specs.Range.{in_range}
-use Rattle.rules.specs.declared.Refusal.TheVariants.{Unsound}
 use Rattle.rules.specs.declared.State.{State}
 use Rattle.rules.specs.Plans.{corners_of, corner_at, plan_verdict, plan_in_range}
 use Rattle.rules.specs.Tables.{plan_of, PlanSound}
@@ -18,7 +17,7 @@ use Rattle.rules.proofs.Corners.{corners_length, corner_is}
 use Rattle.boxes.proofs.PlanEdges.{plan_corners}
 use Rattle.index.specs.Sound.{IndexSound}
 use Rattle.model.specs.declared.Answer.{Answer}
-use Rattle.model.specs.declared.Answer.TheVariants.{Accepted, Refused}
+use Rattle.model.specs.declared.Answer.TheVariants.{Accepted}
 use Rattle.model.specs.declared.Call.TheVariants.{Move, Undo}
 use Rattle.model.specs.Entries.{put_corner, put_back, Entry, entry_of, entry_in, undo_row, is_recorded}
 use Rattle.model.specs.Model.{standing}
@@ -26,7 +25,7 @@ use Rattle.model.specs.Prepared.{Prepared, prepared_of, UndoSound, Sound, Above}
 use Rattle.model.specs.Steps.{move_early, undo_early, early, at_depth, moved_state, moved_undo, Moves, latest, TakesBack, Reaches, NamesCorner, Step, Open, Settled}
 use Rattle.model.specs.Demand.{Fresh}
 use Rattle.model.proofs.Corners.{put_length, corner_put, corner_other, put_take, corner_take, verdict_standing, all_near}
-use Rattle.model.proofs.Ways.{always_recorded, early_move, settled_step, unsound_step, accepted_step, OpenMove, open_move, open_undo}
+use Rattle.model.proofs.Ways.{always_recorded, early_move, settled_step, accepted_step, OpenMove, open_move, open_undo}
 
 -- ---- the plan's own tables
 module _ (state : State) (corners : List ℤ) (rings polygons : List ℕ) (depth i : ℕ) (place : Point) (h : i < state.corners) where
@@ -176,9 +175,6 @@ module _ (d : Prepared) (i : ℕ) (place : Point) where
   move_settled a e = settled_step (Move i place) d a (early_move d i place ∙ e)
 
   module _ (clear : move_early d.state (length d.undo) true i place ≡ Open) where
-    pub move_unsound : (Sound d → ⊥) → Step (Move i place) d (Refused Unsound) d
-    move_unsound never = unsound_step (Move i place) d (early_move d i place ∙ clear) never
-
     pub move_done : (boxes : List (List ℤ)) → Reaches (Move i place) d → (Sound d → Refitted d i (put_corner d.corners i place) boxes) → Step (Move i place) d Accepted (recorded d i place boxes)
     move_done boxes reaches w =
         subst (λ (v : Prepared). Step (Move i place) d Accepted v) as_recorded

@@ -14,6 +14,8 @@ use rules::{Location, Refusal, Reply, State, reply_number};
 /// The most undo records, however long the undo table is.
 pub const MAX_UNDO: usize = 65536;
 
+// A look-up is two variants, not one with a `Spot`: the specs and theorems give each grid its line, with a range and a reply of its own.
+
 /// A call on a prepared plan, with the numbers that it names.
 #[derive(Clone, Copy)]
 pub enum Call {
@@ -25,6 +27,23 @@ pub enum Call {
     Locate(Point),
     /// Where a point of the half-grid lies, given doubled.
     LocateDoubled(Point),
+}
+
+// The call that a row of four numbers codes: 0, corner, x, y a move; 1 an undo; 2, any, x, y a look-up; any other first number a look-up
+// on the half-grid. Every row is a call.
+impl From<[i64; 4]> for Call {
+    ghost from_gives = { λ row call. call ≡ call_of row };
+
+    fn from(row: [i64; 4]) -> Call {
+        let [kind, corner, x, y] = row;
+        let point = Point { x, y };
+        match kind {
+            0 => Call::Move(corner_named(corner), point),
+            1 => Call::Undo,
+            2 => Call::Locate(point),
+            _ => Call::LocateDoubled(point),
+        }
+    }
 }
 
 /// What a call answers.
@@ -104,19 +123,4 @@ pub fn corner_named(number: i64) -> usize
     ensures { result ≡ corner_named number }
 {
     usize::try_from(number).unwrap_or(usize::MAX)
-}
-
-/// The call that a row of four numbers codes: 0, corner, x, y a move; 1 an undo; 2, any, x, y a look-up; any other first number a look-up
-/// on the half-grid. Every row is a call.
-pub fn decode_call(row: [i64; 4]) -> Call
-    ensures { result ≡ call_of row }
-{
-    let [kind, corner, x, y] = row;
-    let point = Point { x, y };
-    match kind {
-        0 => Call::Move(corner_named(corner), point),
-        1 => Call::Undo,
-        2 => Call::Locate(point),
-        _ => Call::LocateDoubled(point),
-    }
 }

@@ -20,7 +20,7 @@ use Rattle.refit.specs.Paths.{Holds, Stops, Found}
 use Rattle.refit.specs.Refits.{cut_box, joined, leaf_fitted, refitted}
 use Rattle.refit.proofs.Fitting.{leaf_smallest, refit_smallest}
 use Rattle.nodes.specs.declared.Node.{Node}
-use Rattle.nodes.specs.Nodes.{no_node, rect_of_node, fitted_cut, fitted_leaf, Fits, box_rows, part_rows, leaf_refitted, cut_refitted, cuts_refitted, path_refitted}
+use Rattle.nodes.specs.Nodes.{no_node, fitted_cut, fitted_leaf, Fits, box_rows, part_rows, leaf_refitted, cut_refitted, cuts_refitted, path_refitted}
 use Rattle.nodes.specs.Answers.{is_listed, leaf_sound, cut_sound}
 use Rattle.nodes.proofs.Tests.{fits_test}
 use Rattle.nodes.proofs.Rows.{box_rows_length, part_rows_length, box_rows_set, part_rows_kept, rect_is, first_is, count_is, child_is}
@@ -43,7 +43,7 @@ module _ (corners : List ℤ) (rings edges : List ℕ) (nodes : List Node) (p : 
       ∙ (λ i. set (box_rows nodes) p (row_of (box_of corners rings edges (sym (first_is nodes p l) i) (sym (count_is nodes p l) i))))
 
   pub leaf_parts : part_rows after ≡ parts
-  leaf_parts = part_rows_kept nodes p (box_of corners rings edges (get_or nodes p no_node).first (get_or nodes p no_node).count)
+  leaf_parts = part_rows_kept nodes p (box_of corners rings edges (get_or nodes p no_node).part.first (get_or nodes p no_node).part.count)
 
   -- it is the smallest
   pub leaf_refit_smallest : Smallest corners rings edges (part_rows after) (box_rows after) p
@@ -57,9 +57,9 @@ module _ (corners : List ℤ) (rings edges : List ℕ) (nodes : List Node) (p : 
   leaf_alike n count stops ends S = leaf_boxes ∙ ap (λ (r : Rect). set (box_rows nodes) p (row_of r)) (sym (leaf_smallest corners edges stops (first_at parts p) rings (count_at parts p) (S.named ends)))
 
 -- ---- one node by its children
-module _ (nodes : List Node) (p : ℕ) (l : p < length nodes) (k : (get_or nodes p no_node).child + 1 < length nodes) where
+module _ (nodes : List Node) (p : ℕ) (l : p < length nodes) (k : (get_or nodes p no_node).part.child + 1 < length nodes) where
   abbrev child : ℕ
-  child = (get_or nodes p no_node).child
+  child = (get_or nodes p no_node).part.child
 
   -- crate `refit`'s refit of a cut node; all parts stay
   pub cut_alike : box_rows (cut_refitted nodes p) ≡ set (box_rows nodes) p (row_of (cut_box (box_rows nodes) (part_rows nodes) p))
@@ -71,7 +71,7 @@ module _ (nodes : List Node) (p : ℕ) (l : p < length nodes) (k : (get_or nodes
       ∙ ap (λ (c : ℕ). set (box_rows nodes) p (row_of (union_of (rect_at (box_rows nodes) c) (rect_at (box_rows nodes) (c + 1))))) (sym (child_is nodes p l))
 
   pub cut_parts : part_rows (cut_refitted nodes p) ≡ part_rows nodes
-  cut_parts = part_rows_kept nodes p (union_of (rect_of_node (get_or nodes child no_node)) (rect_of_node (get_or nodes (child + 1) no_node)))
+  cut_parts = part_rows_kept nodes p (union_of ((get_or nodes child no_node).rect) ((get_or nodes (child + 1) no_node).rect))
 
 -- ---- on tables that are sound for the corners as they stood before. `corners` are those that stand now
 module _ (n : ℕ) (before : List ℤ) (rings : List ℕ) (boxes₀ : List (List ℤ)) (edges : List ℕ) (nodes : List Node) (S : IndexSound n before rings boxes₀ (part_rows nodes) edges) (corners : List ℤ) where
@@ -86,10 +86,10 @@ module _ (n : ℕ) (before : List ℤ) (rings : List ℕ) (boxes₀ : List (List
       record {
         corners_reach = reach;
         ends = ends;
-        names = subst (Names n edges (get_or nodes p no_node).first) size (subst (λ (f : ℕ). Names n edges f (count_at (part_rows nodes) p)) first (part_names n before rings boxes₀ (part_rows nodes) edges S p l));
+        names = subst (Names n edges (get_or nodes p no_node).part.first) size (subst (λ (f : ℕ). Names n edges f (count_at (part_rows nodes) p)) first (part_names n before rings boxes₀ (part_rows nodes) edges S p l));
       }
 
-  children_listed : (p : ℕ) → p < node_count n → 8 < count_at (part_rows nodes) p → (get_or nodes p no_node).child + 1 < length nodes
+  children_listed : (p : ℕ) → p < node_count n → 8 < count_at (part_rows nodes) p → (get_or nodes p no_node).part.child + 1 < length nodes
   children_listed p l big =
       let later = (children_later n before rings boxes₀ (part_rows nodes) edges S p l big).1 in
       omega (arith, S.parts_reach, part_rows_length nodes, child_is nodes p (listed p l))
@@ -101,7 +101,7 @@ module _ (n : ℕ) (before : List ℤ) (rings : List ℕ) (boxes₀ : List (List
   leaf_sound_lem count reach ends p l = λ i. place_sound p l i && fits_test n count corners rings edges (get_or nodes p no_node) (leaf_fits count reach ends p l) i
 
   pub cut_sound_lem : (p : ℕ) → p < node_count n → 8 < count_at (part_rows nodes) p → cut_sound nodes p ≡ true
-  cut_sound_lem p l big = λ i. place_sound p l i && (lt-ltb 8 (get_or nodes p no_node).count (omega (arith, big, count_is nodes p (listed p l))) i && lt-ltb ((get_or nodes p no_node).child + 1) (length nodes) (children_listed p l big) i)
+  cut_sound_lem p l big = λ i. place_sound p l i && (lt-ltb 8 (get_or nodes p no_node).part.count (omega (arith, big, count_is nodes p (listed p l))) i && lt-ltb ((get_or nodes p no_node).part.child + 1) (length nodes) (children_listed p l big) i)
 
   -- a cut node's box is the smallest if its children's are
   pub cut_refit_smallest : (p : ℕ) → p < node_count n → 8 < count_at (part_rows nodes) p → Smallest corners rings edges (part_rows nodes) (box_rows nodes) (child_at (part_rows nodes) p) → Smallest corners rings edges (part_rows nodes) (box_rows nodes) (child_at (part_rows nodes) p + 1)
@@ -126,10 +126,10 @@ cuts_alike path (suc k) nodes below kids =
     let p = get_or path k 0 in
     let after = cut_refitted nodes p in
     let inside = below k (omega arith) in
-    let asked : (get_or nodes p no_node).child + 1 < length nodes = omega (arith, kids k (omega arith), child_is nodes p inside) in
+    let asked : (get_or nodes p no_node).part.child + 1 < length nodes = omega (arith, kids k (omega arith), child_is nodes p inside) in
     let boxes = cut_alike nodes p inside asked in
     let parts = cut_parts nodes p inside asked in
-    let long : length after ≡ length nodes = length-set nodes p (fitted_cut (get_or nodes p no_node) (get_or nodes (get_or nodes p no_node).child no_node) (get_or nodes ((get_or nodes p no_node).child + 1) no_node)) in
+    let long : length after ≡ length nodes = length-set nodes p (fitted_cut (get_or nodes p no_node) (get_or nodes (get_or nodes p no_node).part.child no_node) (get_or nodes ((get_or nodes p no_node).part.child + 1) no_node)) in
     let rest = cuts_alike path k after (λ j t. let b = below j (omega arith) in omega arith) (λ j t. let c = kids j (omega arith) in omega (arith, ap (λ (rows : List (List ℕ)). child_at rows (get_or path j 0)) parts)) in
     (rest.0 ∙ (λ i. joined (parts i) path k (boxes i)), rest.1 ∙ parts)
 

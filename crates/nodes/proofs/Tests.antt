@@ -7,10 +7,16 @@ use Prim.Native.Nat.{ℕ, zero, suc, ◌+◌, ◌-◌, ◌*◌, ◌≤◌, ◌<�
 use native.Mathlib.Decide.{ℕ_discrete}
 use native.Mathlib.Numerals.{add-one}
 use native.Mathlib.Omega.{arith}
-use borrow.Author.Tests.{lt-ltb, le-ltb, le-leb, lt-leb, eq-eqb, leb-true, ltb-true, eqb-true}
+use borrow.Author.Tests.{lt-ltb, le-leb, lt-leb, eq-eqb, leb-true, ltb-true, eqb-true}
 use lib.Dec.{T, leb, ltb, eqb}
 use lib.IntN.{ℤ}
 use lib.ListN.{length, get_or}
+use Rattle.std.specs.Prelude.{take, drop}
+use Rattle.std.specs.List.{IsAllAdjacentAnswer, AllAdjacentBelow, list_all}
+use Rattle.std.proofs.lemmas.List.{get_or-take, get_or-drop}
+use Rattle.std.proofs.lemmas.List.Folds.{list_all_more}
+use Rattle.std.proofs.lemmas.List.Sorted.{non_decreasing_from_is_sorted, all_adjacent_from_non_decreasing}
+use Rattle.std.proofs.Common.{is_le, nat_cmp, length-drop, length-take-le}
 use Rattle.integers.proofs.Tests.{T_true, and_true}
 use Rattle.boxes.specs.Boxes.{Names}
 use Rattle.boxes.specs.Rings.{start_of, RingEnds}
@@ -21,14 +27,6 @@ use Rattle.nodes.specs.Answers.{each_below, ends_rise, names_edges, is_fit, has_
 
 -- ---- a test of each number below m
 module _ (passes : ℕ → Bool) where
-  pub each_none : each_below passes 0 ≡ true
-  unfolding each_below
-  each_none = refl
-
-  pub each_next : (m : ℕ) → each_below passes m ≡ true → passes m ≡ true → each_below passes (m + 1) ≡ true
-  unfolding each_below
-  each_next m so_far last = ap (each_below passes) (add-one m) ∙ (λ i. so_far i && last i)
-
   pub each_holds : (m : ℕ) → each_below passes m ≡ true → (k : ℕ) → k < m → passes k ≡ true
   unfolding each_below
   each_holds zero e k l = absurd (omega arith)
@@ -52,45 +50,43 @@ module _ (passes : ℕ → Bool) where
 
 -- ---- a node is cut and both its children's places are below a length
 module _ (m : Node) (len : ℕ) where
-  pub children_below : T (has_children m len) → m.child + 1 < len
-  children_below t = ltb-true (m.child + 1) len (and_true (ltb 8 m.count) (ltb (m.child + 1) len) (T_true (has_children m len) t)).1
+  pub children_below : T (has_children m len) → m.part.child + 1 < len
+  children_below t = ltb-true (m.part.child + 1) len (and_true (ltb 8 m.part.count) (ltb (m.part.child + 1) len) (T_true (has_children m len) t)).1
 
 -- ---- ring ends that rise to n
 abbrev rises : List ℕ → ℕ → Bool
 rises rings r = leb (start_of rings r) (get_or rings r 0)
 
--- the first i ends rise, and the next ring starts where the last of them is
-pub record Risen (rings : List ℕ) (count i start : ℕ) : Type 0 where
-  pub few : i ≤ count
-  pub reach : count ≤ length rings
-  pub last : start ≡ start_of rings i
-  pub rise : each_below (rises rings) i ≡ true
+-- what the library's `is_sorted` says of the first `count` ends
+pub rise_told : (rings : List ℕ) (count : ℕ) → count ≤ length rings → (sorted : Bool) → IsAllAdjacentAnswer (λ x y b. is_le (nat_cmp x y) ≡ b) (take count rings) sorted → sorted ≡ each_below (rises rings) count
+rise_told rings count long true h = sym (each_made (rises rings) count (λ r l. le-leb (start_of rings r) (get_or rings r 0) (step r l)))
+  where
+    up : AllAdjacentBelow (λ x y. x ≤ y) (take count rings) (length (take count rings))
+    up = all_adjacent_from_non_decreasing (λ x. x) (take count rings) (non_decreasing_from_is_sorted (take count rings) true h)
+
+    step : (r : ℕ) → r < count → start_of rings r ≤ get_or rings r 0
+    step zero l = omega (arith, start_zero rings)
+    step (suc r) l =
+        let up₀ = up r 0 (omega (arith, length-take-le count rings long)) in
+        let e : r + 1 ≡ suc r = omega arith in
+        omega (arith, start_suc rings r, ap (start_of rings) e, ap (λ k. get_or rings k 0) e, get_or-take count rings r 0 (omega arith), get_or-take count rings (r + 1) 0 (omega arith))
+rise_told rings count long false h =
+    let down = non_decreasing_from_is_sorted (take count rings) false h in
+    let r = down.0 in
+    let l : r + 1 < count = omega (arith, down.1, length-take-le count rings long) in
+    sym (each_fails (rises rings) count (r + 1) l
+    (lt-leb (start_of rings (r + 1)) (get_or rings (r + 1) 0)
+    (omega (arith, down.2 0, start_suc rings r, get_or-take count rings r 0 (omega arith), get_or-take count rings (r + 1) 0 l))))
 
 module _ (rings : List ℕ) (n count : ℕ) where
   pub rings_short : length rings < count → false ≡ ends_rise n count rings
   rings_short l = rw (lt-leb count (length rings) l) refl
 
-  pub rise_start : count ≤ length rings → Risen rings count 0 0
-  rise_start long = record { few = omega arith; reach = long; last = sym (start_zero rings); rise = each_none (rises rings) }
+  pub rise_breaks : count ≤ length rings → false ≡ each_below (rises rings) count → false ≡ ends_rise n count rings
+  rise_breaks long down = rw (le-leb count (length rings) long, sym down) refl
 
-  pub rise_next : (i start : ℕ) → i < count → start ≤ get_or rings i 0 → Risen rings count i start → Risen rings count (i + 1) (get_or rings i 0)
-  rise_next i start l up so_far =
-      record {
-        few = omega arith;
-        reach = so_far.reach;
-        last = sym (start_suc rings i);
-        rise = each_next (rises rings) i so_far.rise (le-leb (start_of rings i) (get_or rings i 0) (omega (arith, so_far.last)));
-      }
-
-  pub rise_breaks : (i start : ℕ) → i < count → get_or rings i 0 < start → Risen rings count i start → false ≡ ends_rise n count rings
-  rise_breaks i start l down so_far =
-      rw (le-leb count (length rings) so_far.reach, each_fails (rises rings) count i l (lt-leb (start_of rings i) (get_or rings i 0) (omega (arith, so_far.last)))) refl
-
-  pub rise_done : (i start : ℕ) → count ≤ i → Risen rings count i start → eqb start n ≡ ends_rise n count rings
-  rise_done i start l so_far =
-      let all : i ≡ count = omega (arith, so_far.few) in
-      let each : each_below (rises rings) count ≡ true = ap (each_below (rises rings)) (sym all) ∙ so_far.rise in
-      rw (le-leb count (length rings) so_far.reach, each) (ap (λ (k : ℕ). eqb k n) (so_far.last ∙ ap (start_of rings) all))
+  pub rise_done : count ≤ length rings → true ≡ each_below (rises rings) count → (start : ℕ) → start ≡ start_of rings count → eqb start n ≡ ends_rise n count rings
+  rise_done long up start last = rw (le-leb count (length rings) long, sym up) (ap (λ k. eqb k n) last)
 
   pub ends_of : ends_rise n count rings ≡ true → RingEnds n count rings
   ends_of e =
@@ -115,27 +111,20 @@ module _ (rings : List ℕ) (n count : ℕ) where
 abbrev names : ℕ → List ℕ → ℕ → ℕ → Bool
 names n edges f k = ltb (get_or edges (f + k) 0) n
 
--- the first k places of the part name edges
-pub record Named (n : ℕ) (edges : List ℕ) (f m k : ℕ) : Type 0 where
-  pub few : k ≤ m
-  pub reach : f + m ≤ length edges
-  pub named : each_below (names n edges f) k ≡ true
-
 module _ (n : ℕ) (edges : List ℕ) (f m : ℕ) where
-  pub names_start : f + m ≤ length edges → Named n edges f m 0
-  names_start long = record { few = omega arith; reach = long; named = each_none (names n edges f) }
+  -- what the library's `all` asks of the part, place by place
+  pub names_told : f + m ≤ length edges → (k : ℕ) → k ≤ m → list_all (λ e. ltb e n) (take k (drop f edges)) ≡ each_below (names n edges f) k
+  unfolding each_below
+  names_told long zero h = refl
+  names_told long (suc k) h =
+      let here : k < length (drop f edges) = omega (arith, length-drop f edges) in
+      ap (λ j. list_all (λ e. ltb e n) (take j (drop f edges))) (sym (add-one k)) ∙ list_all_more (λ e. ltb e n) (drop f edges) k 0 here
+      ∙ (λ i. names_told long k (omega arith) i && ltb (get_or-drop f edges k 0 i) n)
 
-  pub names_next : (k : ℕ) → k < m → get_or edges (f + k) 0 < n → Named n edges f m k → Named n edges f m (k + 1)
-  names_next k l below so_far = record { few = omega arith; reach = so_far.reach; named = each_next (names n edges f) k so_far.named (lt-ltb (get_or edges (f + k) 0) n below) }
-
-  pub names_stray : (k : ℕ) → k < m → n ≤ get_or edges (f + k) 0 → Named n edges f m k → false ≡ names_edges n edges f m
-  names_stray k l past so_far = rw (le-leb (f + m) (length edges) so_far.reach, each_fails (names n edges f) m k l (le-ltb (get_or edges (f + k) 0) n past)) refl
-
-  pub names_done : (k : ℕ) → m ≤ k → Named n edges f m k → true ≡ names_edges n edges f m
-  names_done k l so_far =
-      let all : k ≡ m = omega (arith, so_far.few) in
-      let each : each_below (names n edges f) m ≡ true = ap (each_below (names n edges f)) (sym all) ∙ so_far.named in
-      rw (le-leb (f + m) (length edges) so_far.reach, each) refl
+  pub names_done : f + m ≤ length edges → list_all (λ e. ltb e n) (take (f + m - f) (drop f edges)) ≡ names_edges n edges f m
+  names_done long =
+      let size : f + m - f ≡ m = omega arith in
+      ap (λ j. list_all (λ e. ltb e n) (take j (drop f edges))) size ∙ rw (le-leb (f + m) (length edges) long) (names_told long m (omega arith))
 
   pub names_of : names_edges n edges f m ≡ true → Names n edges f m
   names_of e =
@@ -156,9 +145,9 @@ module _ (n : ℕ) (edges : List ℕ) (f m : ℕ) where
 module _ (n count : ℕ) (corners : List ℤ) (rings edges : List ℕ) (m : Node) where
   pub fits_of : is_fit n count corners rings edges m ≡ true → Fits n count corners rings edges m
   fits_of e =
-      let long = and_true (leb (2 * n) (length corners)) (ends_rise n count rings && names_edges n edges m.first m.count) e in
-      let rest = and_true (ends_rise n count rings) (names_edges n edges m.first m.count) long.1 in
-      record { corners_reach = leb-true (2 * n) (length corners) long.0; ends = ends_of rings n count rest.0; names = names_of n edges m.first m.count rest.1 }
+      let long = and_true (leb (2 * n) (length corners)) (ends_rise n count rings && names_edges n edges m.part.first m.part.count) e in
+      let rest = and_true (ends_rise n count rings) (names_edges n edges m.part.first m.part.count) long.1 in
+      record { corners_reach = leb-true (2 * n) (length corners) long.0; ends = ends_of rings n count rest.0; names = names_of n edges m.part.first m.part.count rest.1 }
 
   pub fits_test : Fits n count corners rings edges m → is_fit n count corners rings edges m ≡ true
-  fits_test fits = λ i. le-leb (2 * n) (length corners) fits.corners_reach i && (ends_test rings n count fits.ends i && names_test n edges m.first m.count fits.names i)
+  fits_test fits = λ i. le-leb (2 * n) (length corners) fits.corners_reach i && (ends_test rings n count fits.ends i && names_test n edges m.part.first m.part.count fits.names i)

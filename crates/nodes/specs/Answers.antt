@@ -35,11 +35,11 @@ names_edges n edges f m = leb (f + m) (length edges) && each_below (λ k. ltb (g
 
 -- all that the box of a node's part is made of lies in its table
 abbrev pub is_fit : ℕ → ℕ → List ℤ → List ℕ → List ℕ → Node → Bool
-is_fit n count corners rings edges m = leb (2 * n) (length corners) && (ends_rise n count rings && names_edges n edges m.first m.count)
+is_fit n count corners rings edges m = leb (2 * n) (length corners) && (ends_rise n count rings && names_edges n edges m.part.first m.part.count)
 
 -- a node is cut, that is, its part has more than 8 edges (item 5), and both its children's places are below `len`
 abbrev pub has_children : Node → ℕ → Bool
-has_children m len = ltb 8 m.count && ltb (m.child + 1) len
+has_children m len = ltb 8 m.part.count && ltb (m.part.child + 1) len
 
 -- the list has a place p
 abbrev pub is_listed : List Node → ℕ → Bool

@@ -17,7 +17,8 @@ use Rattle.rules.specs.Replies.{ring_reply, by_hole, holes_reply}
 use Rattle.rings.specs.Parts.{part}
 use Rattle.rings.specs.Places.{is_inside}
 use Rattle.rings.proofs.Parts.{part_none}
-use Rattle.rings.proofs.Rounds.{empty}
+use Rattle.rings.specs.Crossings.{place_by}
+use Rattle.rings.proofs.Rounds.{empty, place_is}
 use Rattle.outlines.specs.declared.rows.Form.{Form}
 use Rattle.outlines.specs.Rows.{parts_from, EndSays}
 use Rattle.outlines.specs.Shapes.{Shown}
@@ -74,5 +75,5 @@ module _ (form : Form) (coordinates : List ℤ) (rings : List ℕ) (start : ℕ)
       none_there e =
           record {
             still = g.still;
-            reached = subst (λ n. Open n (k + 1)) (sym e) (passed Inside (ap (λ l. by_hole l Inside) (empty (part (corners_of coordinates) at end) p (ap (part (corners_of coordinates) at) (sym e) ∙ part_none (corners_of coordinates) at))) refl).reached;
+            reached = subst (λ n. Open n (k + 1)) (sym e) (passed Inside (ap (λ l. by_hole l Inside) (ap place_by (empty (part (corners_of coordinates) at end) p (ap (part (corners_of coordinates) at) (sym e) ∙ part_none (corners_of coordinates) at)) ∙ place_is (part (corners_of coordinates) at end) p)) refl).reached;
           }

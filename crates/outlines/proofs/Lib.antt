@@ -1,6 +1,6 @@
 pub mod Cuts
 pub mod Alignment
-pub mod HalfSteps
 pub mod Holes
+pub mod ParitySteps
 pub mod Progress
 pub mod Steps

@@ -45,57 +45,6 @@ pub no_hole : (holes : List (List Point)) (p : Point) → Undecided holes p [] �
 unfolding holes_reply
 no_hole holes p u = sym u
 
--- ---- trees
--- no boundary so far, and the parity so far
-pub record Nested (rings : List (List Point)) (p : Point) (odd : Bool) (later : List (List Point)) : Type 0 where
-  pub on : any_of (λ ring. on_edge (edges_of ring) p) rings ≡ any_of (λ ring. on_edge (edges_of ring) p) later
-  pub parity : is_odd (count_of (λ ring. is_nonzero (winding ring p)) rings) ≡ xor odd (is_odd (count_of (λ ring. is_nonzero (winding ring p)) later))
-
-pub none_nested : (rings : List (List Point)) (p : Point) → Nested rings p false rings
-none_nested rings p = record { on = refl; parity = refl }
-
--- a ring's reply tells its two tests
-on_boundary : (ring : List Point) (p : Point) → is_boundary (ring_reply ring p) ≡ on_edge (edges_of ring) p
-unfolding ring_reply
-on_boundary ring p = go (on_edge (edges_of ring) p) (is_nonzero (winding ring p))
-  where
-    go : (on inside : Bool) → is_boundary (cond on OnBoundary (cond inside Inside Outside)) ≡ on
-    go true inside = refl
-    go false true = refl
-    go false false = refl
-
-inside_winds : (ring : List Point) (p : Point) → on_edge (edges_of ring) p ≡ false → ring_reply ring p ≡ cond (is_nonzero (winding ring p)) Inside Outside
-unfolding ring_reply
-inside_winds ring p off = ap (λ on. cond on OnBoundary (cond (is_nonzero (winding ring p)) Inside Outside)) off
-
-pub ring_nested : (rings : List (List Point)) (p : Point) (odd : Bool) (ring : List Point) (later : List (List Point)) → is_boundary (ring_reply ring p) ≡ false → Nested rings p odd (ring ∷ later) → Nested rings p (flipped_by odd (ring_reply ring p)) later
-unfolding any_of count_of
-ring_nested rings p odd ring later off n =
-    let out : on_edge (edges_of ring) p ≡ false = sym (on_boundary ring p) ∙ off in
-    record {
-      on = n.on ∙ ap (λ on. on || any_of (λ ring. on_edge (edges_of ring) p) later) out;
-      parity = n.parity ∙ go odd (is_nonzero (winding ring p)) ∙ ap (λ l. xor (flipped_by odd l) (is_odd (count_of (λ ring. is_nonzero (winding ring p)) later))) (sym (inside_winds ring p out));
-    }
-  where
-    twice : (odd b : Bool) → xor odd (not b) ≡ xor (not odd) b
-    twice true true = refl
-    twice true false = refl
-    twice false true = refl
-    twice false false = refl
-
-    go : (odd b : Bool) → xor odd (is_odd (cond b (suc (count_of (λ ring. is_nonzero (winding ring p)) later)) (count_of (λ ring. is_nonzero (winding ring p)) later))) ≡ xor (flipped_by odd (cond b Inside Outside)) (is_odd (count_of (λ ring. is_nonzero (winding ring p)) later))
-    go odd true = ap (xor odd) (odd_suc (count_of (λ ring. is_nonzero (winding ring p)) later)) ∙ twice odd (is_odd (count_of (λ ring. is_nonzero (winding ring p)) later))
-    go odd false = refl
-
-pub ring_on_boundary : (rings : List (List Point)) (p : Point) (odd : Bool) (ring : List Point) (later : List (List Point)) → is_boundary (ring_reply ring p) ≡ true → Nested rings p odd (ring ∷ later) → OnBoundary ≡ tree_reply rings p
-unfolding tree_reply any_of
-ring_on_boundary rings p odd ring later on n =
-    sym (ap (λ on. cond on OnBoundary (cond (is_odd (count_of (λ ring. is_nonzero (winding ring p)) rings)) Inside Outside)) (n.on ∙ ap (λ on. on || any_of (λ ring. on_edge (edges_of ring) p) later) (sym (on_boundary ring p) ∙ on)))
-
-pub all_nested : (rings : List (List Point)) (p : Point) (odd : Bool) → Nested rings p odd [] → cond odd Inside Outside ≡ tree_reply rings p
-unfolding tree_reply any_of count_of
-all_nested rings p odd n = sym (λ i. cond (n.on i) OnBoundary (cond ((n.parity ∙ xor_none odd) i) Inside Outside))
-
 -- ---- polygons and lists
 pub none_polygon : (p : Point) (rings : List (List Point)) → rings ≡ [] → Outside ≡ polygon_reply rings p
 unfolding polygon_reply

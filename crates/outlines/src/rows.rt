@@ -5,7 +5,8 @@ ghost use Rattle.outlines.specs.Rows.{EndSays, RunSays};
 
 use rules::Unsound;
 
-/// What the entries of a table say.
+/// What the entries of a table say. Contracts speak of it, and `end_of` alone matches it: a closure in its place would want a `requires` of its own
+/// in each of the seven functions that hand it down.
 #[derive(Clone, Copy)]
 pub enum Form {
     Lengths,

@@ -1,16 +1,16 @@
-// Where a point lies in a polygon, a list of polygons and a tree (document 01, item 4), over a ring table of either form.
+// Where a point lies in a polygon and in a list of polygons (document 01, item 4), over a ring table of either form.
 ghost use Rattle.std.specs.Prelude.{◌*◌, ◌/◌, ◌≤◌, length};
 ghost use Rattle.rules.specs.Plans.{corners_of};
-ghost use Rattle.rules.specs.Replies.{holes_reply, polygon_reply, tree_reply};
+ghost use Rattle.rules.specs.Replies.{holes_reply, polygon_reply};
 ghost use Rattle.outlines.specs.Rows.{parts_from};
 ghost use Rattle.outlines.specs.Shapes.{Shown, ListShown};
 
 use crate::rows::{Form, end_of, end_of_all};
 use geom::Point;
 use plans::corner_at;
-use rings::crossings::{crossing_of, is_on, wound};
-use rings::places::{flipped, is_boundary, is_inside, odd_place, stronger, through_hole};
-use rings::ring::{closed, ring_reply};
+use rings::crossings::crossing_of;
+use rings::places::{stronger, through_hole};
+use rings::ring::{place_by, ring_reply, with_edge};
 use rules::{Location, Reply};
 
 // The holes in order: the first that the point is not outside of decides, and no later one is looked at. A hole decides at an edge that
@@ -32,16 +32,15 @@ fn holes_reply(form: Form, coordinates: &[i64], rings: &[usize], start: usize, p
         let mut winding: i64 = 0;
         for i in at + 1..end {
             let b = corner_at(coordinates, i);
-            let crossing = crossing_of(a, b, p);
-            if is_on(crossing) {
+            let Some(further) = with_edge(winding, crossing_of(a, b, p)) else {
                 place = Location::OnBoundary;
                 break 'holes;
-            }
-            winding = wound(winding, crossing);
+            };
+            winding = further;
             a = b;
         }
-        place = through_hole(closed(winding, crossing_of(a, first, p)));
-        if !is_inside(place) {
+        place = through_hole(place_by(with_edge(winding, crossing_of(a, first, p))));
+        if place != Location::Inside {
             break 'holes;
         }
         at = end;
@@ -49,26 +48,7 @@ fn holes_reply(form: Form, coordinates: &[i64], rings: &[usize], start: usize, p
     Ok(place)
 }
 
-/// Where p lies in a tree: on any ring's boundary, or else inside exactly if an odd number of rings go round it.
-pub fn tree_reply(form: Form, coordinates: &[i64], rings: &[usize], p: Point) -> Reply
-    ensures { Shown form (length coordinates.now / 2) 0 rings.now (tree_reply (parts_from form (corners_of coordinates.now) 0 rings.now) p) result }
-{
-    let limit = coordinates.len() / 2;
-    let mut odd = false;
-    let mut at = 0;
-    for &entry in rings {
-        let end = end_of(form, entry, at, limit)?;
-        let location = ring_reply(coordinates, at, end, p);
-        if is_boundary(location) {
-            return Ok(Location::OnBoundary);
-        }
-        odd = flipped(odd, location);
-        at = end;
-    }
-    Ok(odd_place(odd))
-}
-
-/// Where p lies in a polygon: its outer ring and then its holes.
+// Where p lies in a polygon: its outer ring and then its holes.
 fn polygon_reply(form: Form, coordinates: &[i64], rings: &[usize], start: usize, p: Point) -> Reply
     requires { 2 * start ≤ length coordinates.now }
     ensures { Shown form (length coordinates.now / 2) start rings.now (polygon_reply (parts_from form (corners_of coordinates.now) start rings.now) p) result }
@@ -78,7 +58,7 @@ fn polygon_reply(form: Form, coordinates: &[i64], rings: &[usize], start: usize,
     };
     let end = end_of(form, *outermost, start, coordinates.len() / 2)?;
     let outer = ring_reply(coordinates, start, end, p);
-    if !is_inside(outer) {
+    if outer != Location::Inside {
         return Ok(outer);
     }
     holes_reply(form, coordinates, holes, end, p)
@@ -104,7 +84,7 @@ pub fn list_reply(
         let place = polygon_reply(form, coordinates, polygon, start, p)?;
         let next = end_of_all(form, polygon, start, limit)?;
         best = stronger(best, place);
-        if is_inside(best) {
+        if best == Location::Inside {
             return Ok(Location::Inside);
         }
         first = last;

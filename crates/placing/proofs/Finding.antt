@@ -9,13 +9,13 @@ use native.Mathlib.Omega.{arith}
 use borrow.Author.Tests.{lt-ltb, le-ltb}
 use lib.IntN.{ℤ}
 use lib.ListN.{get_or}
-use Rattle.boxes.specs.Rings.{start_of, next_corner, RingAt, RingEnds}
+use Rattle.boxes.specs.Rings.{previous_in, start_of, next_corner, RingAt, RingEnds}
 use Rattle.boxes.proofs.Rings.{next_within, next_last, ring_inside, next_of_ring}
 use Rattle.walk.specs.declared.edges.Edge.{Edge}
 use Rattle.walk.specs.Edges.{EdgeSound, EdgeFound}
 use Rattle.walk.specs.Places.{PlaceSound, PlaceFound}
 use Rattle.refit.specs.Paths.{RefitSound}
-use Rattle.placing.specs.Ways.{previous_in, CorrectionSound, PlacesFound}
+use Rattle.placing.specs.Ways.{CorrectionSound, PlacesFound}
 
 -- ---- the corner before one, in a ring
 pub previous_within : (start end e : ℕ) → start < e → previous_in start end e ≡ e - 1

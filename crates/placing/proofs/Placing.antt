@@ -6,7 +6,7 @@ use Prim.Native.Nat.{ℕ, ◌^◌, ◌<◌}
 use native.Mathlib.Decide.{dec_lt}
 use native.Mathlib.Omega.{arith}
 use lib.IntN.{ℤ}
-use lib.ListN.{get_or}
+use lib.ListN.{length, get_or}
 use Rattle.geom.specs.declared.Point.{Point}
 use Rattle.rules.specs.Nodes.{node_count}
 use Rattle.rules.specs.Plans.{corner_at}
@@ -25,13 +25,13 @@ use Rattle.placing.specs.Places.{Placed, AboveEdges, MadeAt}
 module _ (n count : ℕ) (corners : List ℤ) (rings : List ℕ) (boxes : List (List ℤ)) (parts : List (List ℕ)) (edges : List ℕ) (i : ℕ) (after before : Way) (W : WaysFound n count corners rings boxes parts edges i after before) where
   module _ (place : Point) (corners' : List ℤ) (boxes' : List (List ℤ)) (P : Placed i place corners boxes parts edges after before corners' boxes') where
     abbrev between : List (List ℤ)
-    between = refitted corners' boxes parts edges after.path after.stops after.depth
+    between = refitted corners' boxes parts edges after.path.items after.stops.items (length after.path.items)
 
-    first : Refit n corners' boxes parts edges after.path after.stops after.depth between
-    first = refit_done corners' boxes parts edges after.path after.stops after.depth n W.starts.fine between refl
+    first : Refit n corners' boxes parts edges after.path.items after.stops.items (length after.path.items) between
+    first = refit_done corners' boxes parts edges after.path.items after.stops.items (length after.path.items) n W.starts.fine between refl
 
-    second : Refit n corners' between parts edges before.path before.stops before.depth boxes'
-    second = refit_done corners' between parts edges before.path before.stops before.depth n W.stops.fine boxes' P.boxes_are
+    second : Refit n corners' between parts edges before.path.items before.stops.items (length before.path.items) boxes'
+    second = refit_done corners' between parts edges before.path.items before.stops.items (length before.path.items) n W.stops.fine boxes' P.boxes_are
 
     only : OnlyCorner n i corners corners'
     only j l d = ap (λ (c : List ℤ). corner_at c j) P.corners_are ∙ corner_other corners i place j d
@@ -41,7 +41,7 @@ module _ (n count : ℕ) (corners : List ℤ) (rings : List ℕ) (boxes : List (
       stand = record { start_place = W.places.start_place; stop_place = W.places.stop_place; starts = W.places.starts; stops = W.places.stops S.ends }
 
       sound : IndexSound n corners' rings boxes' parts edges
-      sound = moved_sound n count corners rings boxes parts edges S.ends S.index W.at.after W.at.before after.path after.stops after.depth W.starts before.path before.stops before.depth W.stops corners' between boxes' first second i only stand
+      sound = moved_sound n count corners rings boxes parts edges S.ends S.index W.at.after W.at.before after.path.items after.stops.items (length after.path.items) W.starts before.path.items before.stops.items (length before.path.items) W.stops corners' between boxes' first second i only stand
 
       -- the nodes on the two paths have one of the corner's edges among their edges
       above : (p k : ℕ) → p < node_count n → Holds parts p k → EdgeOf n rings i (get_or edges k 0) → AboveEdges n rings parts edges i p
@@ -55,10 +55,10 @@ module _ (n count : ℕ) (corners : List ℤ) (rings : List ℕ) (boxes : List (
 
           go : Dec (p < node_count n) → get_or boxes' p [] ≡ get_or boxes p []
           go (yes l) =
-              moved_rest n count corners rings boxes parts edges S.ends S.index W.at.after W.at.before after.path after.stops after.depth W.starts before.path before.stops before.depth W.stops corners' between boxes' first second p
+              moved_rest n count corners rings boxes parts edges S.ends S.index W.at.after W.at.before after.path.items after.stops.items (length after.path.items) W.starts before.path.items before.stops.items (length before.path.items) W.stops corners' between boxes' first second p
               (λ H. off (above p W.at.after l H (record { edge = inside W.at.after W.places.start_place; end = inl W.places.starts })))
               (λ H. off (above p W.at.before l H (record { edge = inside W.at.before W.places.stop_place; end = inr (W.places.stops S.ends) })))
-          go (no l) = moved_beyond n count corners rings boxes parts edges S.ends S.index W.at.after W.at.before after.path after.stops after.depth W.starts before.path before.stops before.depth W.stops corners' between boxes' first second p (omega arith)
+          go (no l) = moved_beyond n count corners rings boxes parts edges S.ends S.index W.at.after W.at.before after.path.items after.stops.items (length after.path.items) W.starts before.path.items before.stops.items (length before.path.items) W.stops corners' between boxes' first second p (omega arith)
 
     pub placed_made : (old : Point) → old ≡ corner_at corners i → i < 2 ^ 63 → MadeAt n count rings parts edges i place corners boxes corners' boxes' old
     placed_made old e h = record {

@@ -25,13 +25,13 @@ pub record Placeable (n i : ℕ) (corners : List ℤ) (boxes : List (List ℤ)) 
   pub one : i < n
   pub corners_reach : 2 * n ≤ length corners
   pub boxes_reach : node_count n ≤ length boxes
-  pub starts : Fine n parts edges after.path after.stops after.depth
-  pub stops : Fine n parts edges before.path before.stops before.depth
+  pub starts : Fine n parts edges after.path.items after.stops.items (length after.path.items)
+  pub stops : Fine n parts edges before.path.items before.stops.items (length before.path.items)
 
 -- on any tables: the corner stands at its place, and the boxes on the two paths are refitted, one path after the other
 pub record Placed (i : ℕ) (place : Point) (corners : List ℤ) (boxes : List (List ℤ)) (parts : List (List ℕ)) (edges : List ℕ) (after before : Way) (corners' : List ℤ) (boxes' : List (List ℤ)) : Type 0 where
   pub corners_are : corners' ≡ put_corner corners i place
-  pub boxes_are : boxes' ≡ refitted corners' (refitted corners' boxes parts edges after.path after.stops after.depth) parts edges before.path before.stops before.depth
+  pub boxes_are : boxes' ≡ refitted corners' (refitted corners' boxes parts edges after.path.items after.stops.items (length after.path.items)) parts edges before.path.items before.stops.items (length before.path.items)
 
 -- node p has one of corner i's two edges among its edges
 pub record AboveEdges (n : ℕ) (rings : List ℕ) (parts : List (List ℕ)) (edges : List ℕ) (i p : ℕ) : Type 0 where

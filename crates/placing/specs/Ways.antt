@@ -1,5 +1,5 @@
 -- A corner's two edges: where they stand in the edge list, and the ways there (document 01, item 9, "The correction book", refusal 15).
-use Rattle.std.specs.Prelude.{◌≡◌, cond, List, ℕ, ◌-◌, ◌*◌, ◌≤◌, ◌<◌, ltb, ℤ, length, get_or, Result, Ok, Err}
+use Rattle.std.specs.Prelude.{◌≡◌, List, ℕ, ◌*◌, ◌≤◌, ◌<◌, ℤ, length, get_or, Result, Ok, Err}
 use Rattle.rules.specs.declared.Unsound.{Unsound}
 use Rattle.rules.specs.Nodes.{node_count}
 use Rattle.boxes.specs.Rings.{next_corner, RingEnds}
@@ -7,10 +7,6 @@ use Rattle.index.specs.Sound.{IndexSound}
 use Rattle.refit.specs.Paths.{Found}
 use Rattle.refit.specs.declared.Way.{Way}
 use Rattle.placing.specs.declared.places.Places.{Places}
-
--- in a ring from `start` to `end`: the corner before, or the last before the first
-abbrev pub previous_in : ℕ → ℕ → ℕ → ℕ
-previous_in start end e = cond (ltb start e) (e - 1) (end - 1)
 
 -- soundness as far as a correction rests on it: the corners' length, rings and index of a plan under item 1's ceiling
 pub record CorrectionSound (n count : ℕ) (corners : List ℤ) (rings : List ℕ) (boxes : List (List ℤ)) (parts : List (List ℕ)) (edges : List ℕ) : Type 0 where
@@ -37,5 +33,5 @@ PlacesSay n count corners rings boxes parts edges i (Err _) = CorrectionSound n 
 pub record WaysFound (n count : ℕ) (corners : List ℤ) (rings : List ℕ) (boxes : List (List ℤ)) (parts : List (List ℕ)) (edges : List ℕ) (i : ℕ) (after before : Way) : Type 0 where
   pub at : Places
   pub places : PlacesFound n count corners rings boxes edges i at
-  pub starts : Found n count rings parts edges at.after after.path after.stops after.depth
-  pub stops : Found n count rings parts edges at.before before.path before.stops before.depth
+  pub starts : Found n count rings parts edges at.after after.path.items after.stops.items (length after.path.items)
+  pub stops : Found n count rings parts edges at.before before.path.items before.stops.items (length before.path.items)

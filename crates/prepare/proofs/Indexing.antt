@@ -1,4 +1,5 @@
 -- What the steps of preparing ask, where a plan is ready. Assumes nothing.
+use Rattle.std.specs.Prelude.{Option}
 use mathlib.Core.Path.{◌≡◌, refl, sym, subst}
 use mathlib.Core.Bool.{true}
 use mathlib.Core.List.{List}
@@ -32,7 +33,7 @@ polygons_fit : (kind : Kind) (counts table : List ℕ) (rings : ℕ) → (is_lis
 polygons_fit Polygons counts table rings e f h = record { reach = h; few = omega (arith, e refl, f) }
 polygons_fit Tree counts table rings e f h = tt
 
-module _ (plan : Plan) (before : Tables) (state : State) (nodes : ℕ) (g : Given plan (room_of before) state nodes) where
+module _ (plan : Plan) (before : Tables) (state : State) (nodes : Option ℕ) (g : Given plan (room_of before) state nodes) where
   -- an accepted plan has a place in the tables
   pub plan_fits : PlanFits plan before.corners before.rings before.polygons
   plan_fits =

@@ -1,5 +1,5 @@
 -- What preparing answers, in numbers. Assumes nothing.
-use Rattle.std.specs.Prelude.{Err, Ok}
+use Rattle.std.specs.Prelude.{Err, Ok, Option, Some, None}
 use mathlib.Core.Path.{◌≡◌, refl, ap, ◌∙◌}
 use mathlib.Core.Bool.{Bool, true, false, cond, ◌||◌}
 use Prim.Native.Nat.{ℕ, ◌*◌}
@@ -38,7 +38,7 @@ module _ (state : State) (room : Room) where
   unfolding with_nodes short_index
   index_told = go (ltb room.boxes (node_count state.corners) || ltb room.parts (node_count state.corners)) (ltb room.edges state.corners)
     where
-      go : (a b : Bool) → Told (cond a (Err (TableTooShort Nodes)) (cond b (Err (TableTooShort Edges)) (ready_with state (node_count state.corners)))) (node_count state.corners) (cond a 4 (cond b 5 0))
+      go : (a b : Bool) → Told (cond a (Err (TableTooShort Nodes)) (cond b (Err (TableTooShort Edges)) (ready_with state (Some (node_count state.corners))))) (node_count state.corners) (cond a 4 (cond b 5 0))
       go true b = record { number = refl; detail = refl; names = refl }
       go false true = record { number = refl; detail = refl; names = refl }
       go false false = record { number = refl; detail = refl; names = refl }
@@ -47,7 +47,7 @@ module _ (state : State) (room : Room) where
   unfolding with_room short_table
   room_told = go (ltb room.corners (2 * state.corners)) (ltb room.rings state.rings) (ltb room.polygons state.polygons) state.out_of_range
     where
-      go : (a b c m : Bool) → Told (cond a (Err (TableTooShort Corners)) (cond b (Err (TableTooShort Rings)) (cond c (Err (TableTooShort Polygons)) (cond m (ready_with state 0) (with_nodes state room))))) (cond m 0 (node_count state.corners))
+      go : (a b c m : Bool) → Told (cond a (Err (TableTooShort Corners)) (cond b (Err (TableTooShort Rings)) (cond c (Err (TableTooShort Polygons)) (cond m (ready_with state None) (with_nodes state room))))) (cond m 0 (node_count state.corners))
           (cond a 1 (cond b 2 (cond c 3 (cond m 0 (short_index state room)))))
       go true b c m = record { number = refl; detail = refl; names = refl }
       go false true c m = record { number = refl; detail = refl; names = refl }

@@ -1,5 +1,5 @@
 -- What preparing leaves to look-ups and corrections, from its contract alone. Assumes nothing.
-use Rattle.std.specs.Prelude.{Err, Ok}
+use Rattle.std.specs.Prelude.{Err, Ok, Option, Some, None}
 use mathlib.Core.Path.{◌≡◌, refl, sym, ◌∙◌, ap, subst}
 use mathlib.Core.Bool.{Bool, true, false, true≢false, not, ◌||◌}
 use mathlib.Core.List.{List, [], ◌∷◌, ◌++◌}
@@ -61,7 +61,7 @@ module _ (plan : Plan) where
 abbrev pub held_in : State → Tables → Plan
 held_in state t = plan_of state t.corners t.rings t.polygons
 
-module _ (plan : Plan) (before after : Tables) (state : State) (nodes : ℕ) (P : Prepared plan before after (ready_with state nodes)) where
+module _ (plan : Plan) (before after : Tables) (state : State) (nodes : Option ℕ) (P : Prepared plan before after (ready_with state nodes)) where
   pub ready : Given plan (room_of before) state nodes
   ready = given plan (room_of before) state nodes P.answer
 
@@ -144,12 +144,12 @@ module _ (plan : Plan) (before after : Tables) (state : State) (nodes : ℕ) (P 
     pub index_sound : IndexSound state.corners after.corners after.rings after.boxes after.parts after.edges
     index_sound = index_built.1.sound
 
-    pub nodes_all : nodes ≡ node_count state.corners
-    nodes_all = (ready.roomy.indexed (ap not near)).counted ∙ ap (λ s. node_count s.corners) (sym state_is)
+    pub nodes_all : nodes ≡ Some (node_count state.corners)
+    nodes_all = (ready.roomy.indexed (ap not near)).counted ∙ ap (λ s. Some (node_count s.corners)) (sym state_is)
 
   -- ---- a marked plan has none
   module _ (stray : plan_in_range plan ≡ false) where
-    pub nodes_none : nodes ≡ 0
+    pub nodes_none : nodes ≡ None
     nodes_none = ready.roomy.unindexed (ap not stray)
 
     pub index_unwritten : (after.boxes ≡ before.boxes) × (after.parts ≡ before.parts) × (after.edges ≡ before.edges)
@@ -177,6 +177,6 @@ room_kept plan before after r P = go r P
         let index = lengths (plan_in_range plan) refl prepared.state prepared.nodes Q in
         λ i. record { corners = corners i; rings = rings i; polygons = ends i; boxes = index.0 i; parts = index.1 i; edges = index.2 i }
       where
-        lengths : (b : Bool) → plan_in_range plan ≡ b → (state : State) (nodes : ℕ) → Prepared plan before after (ready_with state nodes) → (length after.boxes ≡ length before.boxes) × (length after.parts ≡ length before.parts) × (length after.edges ≡ length before.edges)
+        lengths : (b : Bool) → plan_in_range plan ≡ b → (state : State) (nodes : Option ℕ) → Prepared plan before after (ready_with state nodes) → (length after.boxes ≡ length before.boxes) × (length after.parts ≡ length before.parts) × (length after.edges ≡ length before.edges)
         lengths true e state nodes Q = let b = (index_built plan before after state nodes Q e).1 in (b.boxes_long, b.parts_long, b.edges_long)
         lengths false e state nodes Q = let u = index_unwritten plan before after state nodes Q e in (ap length u.0, ap length u.1, ap length u.2)

@@ -1,5 +1,5 @@
 -- What preparing answers, test by test. Assumes nothing.
-use Rattle.std.specs.Prelude.{Err, Ok}
+use Rattle.std.specs.Prelude.{Err, Ok, Option, Some, None}
 use mathlib.Core.Path.{◌≡◌, refl, sym, ap, ◌∙◌}
 use mathlib.Core.Bool.{Bool, true, false, true≢false, cond, ◌||◌}
 use Prim.Native.Nat.{ℕ, ◌*◌, ◌/◌, ◌≤◌, ◌<◌}
@@ -29,7 +29,7 @@ module _ (state : State) (room : Room) where
       unfolding with_nodes
       edges_short h = sym (rw (sym is, e, lt-ltb room.edges state.corners h) refl)
 
-      pub nodes_enough : state.corners ≤ room.edges → ready_with state nodes ≡ with_nodes state room
+      pub nodes_enough : state.corners ≤ room.edges → ready_with state (Some nodes) ≡ with_nodes state room
       unfolding with_nodes
       nodes_enough h = sym (rw (sym is, e, le-ltb room.edges state.corners h) refl)
 
@@ -49,7 +49,7 @@ module _ (state : State) (room : Room) where
       polygons_short c = sym (rw (le-ltb room.corners (2 * state.corners) (omega arith), le-ltb room.rings state.rings b, lt-ltb room.polygons state.polygons c) refl)
 
       module _ (c : state.polygons ≤ room.polygons) where
-        pub unneeded : state.out_of_range ≡ true → ready_with state 0 ≡ with_room state room
+        pub unneeded : state.out_of_range ≡ true → ready_with state None ≡ with_room state room
         unfolding with_room
         unneeded d = sym (rw (le-ltb room.corners (2 * state.corners) (omega arith), le-ltb room.rings state.rings b, le-ltb room.polygons state.polygons c, d) refl)
 
@@ -69,51 +69,51 @@ module _ (plan : Plan) (room : Room) where
 
 -- ---- enough room: ready
 module _ (state : State) (room : Room) (a : 2 * state.corners ≤ room.corners) (b : state.rings ≤ room.rings) (c : state.polygons ≤ room.polygons) where
-  pub ready_unindexed : state.out_of_range ≡ true → ready_with state 0 ≡ with_room state room
+  pub ready_unindexed : state.out_of_range ≡ true → ready_with state None ≡ with_room state room
   ready_unindexed d = unneeded state room (omega arith) b c d
 
-  pub ready_indexed : state.out_of_range ≡ false → node_count state.corners ≤ room.boxes → node_count state.corners ≤ room.parts → state.corners ≤ room.edges → ready_with state (node_count state.corners) ≡ with_room state room
+  pub ready_indexed : state.out_of_range ≡ false → node_count state.corners ≤ room.boxes → node_count state.corners ≤ room.parts → state.corners ≤ room.edges → ready_with state (Some (node_count state.corners)) ≡ with_room state room
   ready_indexed d e f g =
       nodes_enough state room (node_count state.corners) refl (λ i. le-ltb room.boxes (node_count state.corners) e i || le-ltb room.parts (node_count state.corners) f i) g
       ∙ needed state room (omega arith) b c d
 
 -- ---- what is known where a plan is ready
-pub different : {A : Type 0} (state : State) (nodes : ℕ) (refusal : Refusal) → ready_with state nodes ≡ Err refusal → A
+pub different : {A : Type 0} (state : State) (nodes : Option ℕ) (refusal : Refusal) → ready_with state nodes ≡ Err refusal → A
 different state nodes refusal e = let one : ◌≡◌ {A = ℕ} 0 1 = cc in absurd (omega arith)
 
 state_in : State → Preparing → State
 state_in other (Ok ready) = ready.state
 state_in other (Err refusal) = other
 
-nodes_in : ℕ → Preparing → ℕ
+nodes_in : Option ℕ → Preparing → Option ℕ
 nodes_in other (Ok ready) = ready.nodes
 nodes_in other (Err refusal) = other
 
-same_ready : (state state' : State) (nodes nodes' : ℕ) → ready_with state nodes ≡ ready_with state' nodes' → (state ≡ state') × (nodes ≡ nodes')
+same_ready : (state state' : State) (nodes nodes' : Option ℕ) → ready_with state nodes ≡ ready_with state' nodes' → (state ≡ state') × (nodes ≡ nodes')
 unfolding state_in nodes_in
 same_ready state state' nodes nodes' e = (ap (state_in state) e, ap (nodes_in nodes) e)
 
-pub record Needed (state : State) (room : Room) (nodes : ℕ) : Type 0 where
-  pub counted : nodes ≡ node_count state.corners
+pub record Needed (state : State) (room : Room) (nodes : Option ℕ) : Type 0 where
+  pub counted : nodes ≡ Some (node_count state.corners)
   pub boxes_reach : node_count state.corners ≤ room.boxes
   pub parts_reach : node_count state.corners ≤ room.parts
   pub edges_reach : state.corners ≤ room.edges
 
 -- there is room for the plan, and for its index unless it is marked
-pub record Roomy (state : State) (room : Room) (nodes : ℕ) : Type 0 where
+pub record Roomy (state : State) (room : Room) (nodes : Option ℕ) : Type 0 where
   pub corners_reach : 2 * state.corners ≤ room.corners
   pub rings_reach : state.rings ≤ room.rings
   pub polygons_reach : state.polygons ≤ room.polygons
-  pub unindexed : state.out_of_range ≡ true → nodes ≡ 0
+  pub unindexed : state.out_of_range ≡ true → nodes ≡ None
   pub indexed : state.out_of_range ≡ false → Needed state room nodes
 
-module _ (state : State) (room : Room) (given : State) (nodes : ℕ) where
+module _ (state : State) (room : Room) (given : State) (nodes : Option ℕ) where
   room_nodes : ready_with given nodes ≡ with_nodes state room → (given ≡ state) × Needed state room nodes
   unfolding with_nodes
   room_nodes e = go (ltb room.boxes (node_count state.corners) || ltb room.parts (node_count state.corners)) (ltb room.edges state.corners) refl refl e
     where
       go : (a b : Bool) → ltb room.boxes (node_count state.corners) || ltb room.parts (node_count state.corners) ≡ a → ltb room.edges state.corners ≡ b
-          → ready_with given nodes ≡ cond a (Err (TableTooShort Nodes)) (cond b (Err (TableTooShort Edges)) (ready_with state (node_count state.corners))) → (given ≡ state) × Needed state room nodes
+          → ready_with given nodes ≡ cond a (Err (TableTooShort Nodes)) (cond b (Err (TableTooShort Edges)) (ready_with state (Some (node_count state.corners)))) → (given ≡ state) × Needed state room nodes
       go true b p q h = different given nodes (TableTooShort Nodes) h
       go false true p q h = different given nodes (TableTooShort Edges) h
       go false false p q h =
@@ -126,7 +126,7 @@ module _ (state : State) (room : Room) (given : State) (nodes : ℕ) where
   room_given e = go (ltb room.corners (2 * state.corners)) (ltb room.rings state.rings) (ltb room.polygons state.polygons) state.out_of_range refl refl refl refl e
     where
       go : (a b c d : Bool) → ltb room.corners (2 * state.corners) ≡ a → ltb room.rings state.rings ≡ b → ltb room.polygons state.polygons ≡ c → state.out_of_range ≡ d
-          → ready_with given nodes ≡ cond a (Err (TableTooShort Corners)) (cond b (Err (TableTooShort Rings)) (cond c (Err (TableTooShort Polygons)) (cond d (ready_with state 0) (with_nodes state room)))) → (given ≡ state) × Roomy state room nodes
+          → ready_with given nodes ≡ cond a (Err (TableTooShort Corners)) (cond b (Err (TableTooShort Rings)) (cond c (Err (TableTooShort Polygons)) (cond d (ready_with state None) (with_nodes state room)))) → (given ≡ state) × Roomy state room nodes
       go true b c d p q r s h = different given nodes (TableTooShort Corners) h
       go false true c d p q r s h = different given nodes (TableTooShort Rings) h
       go false false true d p q r s h = different given nodes (TableTooShort Polygons) h
@@ -154,12 +154,12 @@ module _ (state : State) (room : Room) (given : State) (nodes : ℕ) where
           )
 
 -- a plan that was prepared: accepted, with room, and this is its state
-pub record Given (plan : Plan) (room : Room) (state : State) (nodes : ℕ) : Type 0 where
+pub record Given (plan : Plan) (room : Room) (state : State) (nodes : Option ℕ) : Type 0 where
   pub accepted : plan_verdict plan ≡ Accepted
   pub state_is : state ≡ state_of plan
   pub roomy : Roomy (state_of plan) room nodes
 
-pub given : (plan : Plan) (room : Room) (state : State) (nodes : ℕ) → ready_with state nodes ≡ preparing plan room → Given plan room state nodes
+pub given : (plan : Plan) (room : Room) (state : State) (nodes : Option ℕ) → ready_with state nodes ≡ preparing plan room → Given plan room state nodes
 unfolding preparing
 given plan room state nodes e = go (plan_verdict plan) refl e
   where

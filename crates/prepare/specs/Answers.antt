@@ -1,5 +1,5 @@
 -- What preparing a plan answers (document 01, items 5 and 6, refusals 4, 3 and 11).
-use Rattle.std.specs.Prelude.{not, cond, ◌||◌, ℕ, ◌*◌, eqb, ltb, length, Result, Ok, Err}
+use Rattle.std.specs.Prelude.{not, cond, ◌||◌, ℕ, ◌*◌, eqb, ltb, length, Option, Some, None, Result, Ok, Err}
 use Rattle.rules.specs.declared.Refusal.{Refusal}
 use Rattle.rules.specs.declared.Refusal.TheVariants.{TableTooShort}
 use Rattle.rules.specs.declared.State.{State}
@@ -16,8 +16,13 @@ use Rattle.rules.specs.Answering.{Verdict}
 abbrev pub Preparing : Type 0
 Preparing = Result Ready Refusal
 
-abbrev pub ready_with : State → ℕ → Preparing
+abbrev pub ready_with : State → Option ℕ → Preparing
 ready_with state nodes = Ok (record { state = state; nodes = nodes })
+
+-- the number of nodes as a number: 0 where the plan has no index
+abbrev pub nodes_number : Option ℕ → ℕ
+nodes_number (Some nodes) = nodes
+nodes_number None = 0
 
 -- 0 where the plan was prepared, or the refusal's number
 abbrev pub preparing_number : Preparing → ℕ
@@ -26,7 +31,7 @@ preparing_number (Err refusal) = refusal_number refusal
 
 -- the number of nodes reported where the plan was prepared, 11's table, and 0 with any other refusal
 abbrev pub preparing_detail : Preparing → ℕ
-preparing_detail (Ok ready) = ready.nodes
+preparing_detail (Ok ready) = nodes_number ready.nodes
 preparing_detail (Err refusal) = refusal_detail refusal
 
 -- the state of a plan just prepared. Item 6: it is marked where a corner is out of range. A tree has no polygons; nothing is to undo
@@ -45,16 +50,16 @@ state_of plan =
 unfoldable pub with_nodes : State → Room → Preparing
 with_nodes state room =
     cond (ltb room.boxes (node_count state.corners) || ltb room.parts (node_count state.corners)) (Err (TableTooShort Nodes))
-    (cond (ltb room.edges state.corners) (Err (TableTooShort Edges)) (ready_with state (node_count state.corners)))
+    (cond (ltb room.edges state.corners) (Err (TableTooShort Edges)) (ready_with state (Some (node_count state.corners))))
 
 -- 11: the first table that is too short, of corners (two numbers a corner), rings, polygons (none for a tree), nodes, edges. A marked
--- plan needs no nodes and no edges, and 0 nodes are reported
+-- plan needs no nodes and no edges, and none are reported
 unfoldable pub with_room : State → Room → Preparing
 with_room state room =
     cond (ltb room.corners (2 * state.corners)) (Err (TableTooShort Corners))
     (cond (ltb room.rings state.rings) (Err (TableTooShort Rings))
     (cond (ltb room.polygons state.polygons) (Err (TableTooShort Polygons))
-    (cond state.out_of_range (ready_with state 0) (with_nodes state room))))
+    (cond state.out_of_range (ready_with state None) (with_nodes state room))))
 
 -- a plan that is refused gets that refusal
 abbrev pub judged : Verdict → Preparing → Preparing

@@ -4,20 +4,20 @@ ghost use Rattle.prepare.specs.Answers.{state_of, with_nodes, with_room, prepari
 
 use crate::{Ready, Room};
 use index::count::node_count;
-use plans::{all_in_range, judge};
-use rules::{Kind, Refusal, State, Table, polygons_in};
+use plans::{Plan, PlanRoom, all_in_range};
+use rules::{Refusal, State, Table, polygons_in};
 
 // The state of a plan just prepared.
 #[tactic(auto, unfolding(rules::specs::Plans::plan_in_range))]
-fn state_of(kind: Kind, coordinates: &[i64], lengths: &[usize], counts: &[usize]) -> State
-    ensures { result ≡ state_of (record { kind = kind; coordinates = coordinates.now; lengths = lengths.now; counts = counts.now }) }
+fn state_of(plan: &Plan<'_>) -> State
+    ensures { result ≡ state_of plan.now }
 {
     State {
-        kind,
-        out_of_range: !all_in_range(coordinates),
-        corners: coordinates.len() / 2,
-        rings: lengths.len(),
-        polygons: polygons_in(kind, counts.len()),
+        kind: plan.kind,
+        out_of_range: !all_in_range(plan.coordinates),
+        corners: plan.coordinates.len() / 2,
+        rings: plan.lengths.len(),
+        polygons: polygons_in(plan.kind, plan.counts.len()),
         undo_depth: 0,
     }
 }
@@ -34,7 +34,10 @@ fn with_nodes(state: State, room: Room) -> Result<Ready, Refusal>
     if room.edges < state.corners {
         return Err(Refusal::TableTooShort(Table::Edges));
     }
-    Ok(Ready { state, nodes })
+    Ok(Ready {
+        state,
+        nodes: Some(nodes),
+    })
 }
 
 // Refusal 11 with the first table that is too short, or ready.
@@ -42,32 +45,23 @@ fn with_nodes(state: State, room: Room) -> Result<Ready, Refusal>
 fn with_room(state: State, room: Room) -> Result<Ready, Refusal>
     ensures { result ≡ with_room state room }
 {
-    if room.corners / 2 < state.corners {
-        return Err(Refusal::TableTooShort(Table::Corners));
-    }
-    if room.rings < state.rings {
-        return Err(Refusal::TableTooShort(Table::Rings));
-    }
-    if room.polygons < state.polygons {
-        return Err(Refusal::TableTooShort(Table::Polygons));
-    }
+    let tables = PlanRoom {
+        corners: room.corners,
+        rings: room.rings,
+        polygons: room.polygons,
+    };
+    tables.holds(state.corners, state.rings, state.polygons)?;
     if state.out_of_range {
-        return Ok(Ready { state, nodes: 0 });
+        return Ok(Ready { state, nodes: None });
     }
     with_nodes(state, room)
 }
 
 /// What preparing a plan into tables with this room answers.
 #[tactic(auto, unfolding(crate::specs::Answers::preparing))]
-pub(crate) fn answer(
-    kind: Kind,
-    coordinates: &[i64],
-    lengths: &[usize],
-    counts: &[usize],
-    room: Room,
-) -> Result<Ready, Refusal>
-    ensures { result ≡ preparing (record { kind = kind; coordinates = coordinates.now; lengths = lengths.now; counts = counts.now }) room }
+pub(crate) fn answer(plan: &Plan<'_>, room: Room) -> Result<Ready, Refusal>
+    ensures { result ≡ preparing plan.now room }
 {
-    judge(kind, coordinates, lengths, counts)?;
-    with_room(state_of(kind, coordinates, lengths, counts), room)
+    plan.judge()?;
+    with_room(state_of(plan), room)
 }

@@ -3,7 +3,8 @@ ghost use Rattle.std.specs.Prelude.{◌≡◌, ◌≤◌, length, drop, ◌++◌
 ghost use Rattle.prepare.specs.Tables.{ends_in, polygons_end, Fits, PolygonsFit, PlanFits, PlanPut, Buildable, Indexed};
 
 use index::build::build;
-use rules::{Kind, State, is_list};
+use plans::Plan;
+use rules::{Kind, State};
 
 // Puts the coordinates at the start of the corner table.
 fn put_corners(coordinates: &[i64], corners: &mut [i64])
@@ -30,27 +31,24 @@ fn put_polygons(kind: Kind, counts: &[usize], polygons: &mut [usize])
     requires { PolygonsFit kind counts.now polygons.old }
     ensures { polygons.new ≡ polygons_end kind counts.now polygons.old }
 {
-    if is_list(kind) {
+    if kind == Kind::Polygons {
         put_ends(counts, polygons);
     }
 }
 
 /// Puts an accepted plan into its tables.
 pub(crate) fn put_plan(
-    kind: Kind,
-    coordinates: &[i64],
-    lengths: &[usize],
-    counts: &[usize],
+    plan: &Plan<'_>,
     corners: &mut [i64],
     rings: &mut [usize],
     polygons: &mut [usize],
 )
-    requires { PlanFits (record { kind = kind; coordinates = coordinates.now; lengths = lengths.now; counts = counts.now }) corners.old rings.old polygons.old }
-    ensures { PlanPut (record { kind = kind; coordinates = coordinates.now; lengths = lengths.now; counts = counts.now }) corners.old rings.old polygons.old corners.new rings.new polygons.new }
+    requires { PlanFits plan.now corners.old rings.old polygons.old }
+    ensures { PlanPut plan.now corners.old rings.old polygons.old corners.new rings.new polygons.new }
 {
-    put_corners(coordinates, corners);
-    put_ends(lengths, rings);
-    put_polygons(kind, counts, polygons);
+    put_corners(plan.coordinates, corners);
+    put_ends(plan.lengths, rings);
+    put_polygons(plan.kind, plan.counts, polygons);
 }
 
 /// Builds the index of the plan in the tables. A plan that is out of range has none, and nothing is written.

@@ -1,6 +1,6 @@
 -- From preparing to look-ups: over the tables that `prepare` leaves, each look-up gives the reply of the plan handed in, marked or not, for
 -- every point. Assumes nothing.
-use Rattle.std.specs.Prelude.{Ok}
+use Rattle.std.specs.Prelude.{Ok, Option}
 use mathlib.Core.Path.{◌≡◌, refl, sym, ◌∙◌, ap}
 use mathlib.Core.Bool.{Bool, true, false, cond, ◌&&◌, not}
 use mathlib.Core.Logic.{inl, inr}
@@ -35,7 +35,7 @@ half_stray : (plan : Plan) (p : Point) → plan_in_range plan ≡ false → plan
 unfolding plan_half_reply
 half_stray plan p e = λ t. cond (e t && in_doubled_range p) (half_reply (rings_of plan) p) Outside
 
-module _ (plan : Plan) (before after : Tables) (state : State) (nodes : ℕ) (P : Prepared plan before after (ready_with state nodes)) where
+module _ (plan : Plan) (before after : Tables) (state : State) (nodes : Option ℕ) (P : Prepared plan before after (ready_with state nodes)) where
   -- a plan in range has sound tables
   pub look_sound : plan_in_range plan ≡ true → LookSound state after.corners after.rings after.polygons after.boxes after.parts after.edges
   look_sound near = record { plan = plan_sound plan before after state nodes P near; index = index_sound plan before after state nodes P near }

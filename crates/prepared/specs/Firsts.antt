@@ -11,6 +11,7 @@ use Rattle.rules.specs.Numbers.{refusal_number, verdict_number}
 use Rattle.rules.specs.Plans.{corners_of, corner_at, plan_reply}
 use Rattle.rules.specs.Tables.{plan_of}
 use Rattle.rings.specs.Places.{is_outside}
+use Rattle.gather.specs.declared.tables.Tables.{Tables}
 use Rattle.gather.specs.Regions.{Enough, LookSound}
 use Rattle.rules.specs.Answering.{Verdict, Accepted}
 
@@ -69,3 +70,7 @@ pub record FirstSays (state : State) (corners : List ℤ) (rings polygons : List
       → (Enough state (length corners) (length rings) (length polygons) (length boxes) (length parts) (length edges) → ⊥) → r ≡ Err Unsound
   pub exact : points_verdict points ≡ Accepted → state.out_of_range ≡ false → LookSound state corners rings polygons boxes parts edges
       → r ≡ first_of (plan_reply (plan_of state corners rings polygons)) (corners_of points)
+
+-- in tables that are lent
+abbrev pub FirstIn : State → Tables → List ℤ → First → Type 0
+FirstIn state tables = FirstSays state tables.corners.now tables.rings.now tables.polygons.now tables.boxes.now tables.parts.now tables.edges.now

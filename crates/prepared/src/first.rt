@@ -1,10 +1,9 @@
 // The first point of a list that is not outside (document 01, item 8; `first_not_outside` of src/query.rs).
-ghost use Rattle.prepared.specs.Firsts.{PointsJudged, FirstSays};
+ghost use Rattle.prepared.specs.Firsts.{PointsJudged, FirstIn};
 
-use crate::locate::locate;
+use crate::locate::{Tables, locate};
 use plans::corner_at;
-use rings::places::is_outside;
-use rules::{Refusal, Spot, State};
+use rules::{Location, Refusal, Spot, State};
 
 /// The most points of a list.
 pub const MAX_POINTS: usize = 65536;
@@ -29,21 +28,16 @@ pub fn judge_points(points: &[i64]) -> Result<(), Refusal>
 /// plan out of range every point is outside. Refused with 15 (`Unsound`) where a look-up is: never on sound tables.
 pub fn first_not_outside(
     state: State,
-    corners: &[i64],
-    rings: &[usize],
-    polygons: &[usize],
-    boxes: &[[i64; 4]],
-    parts: &[[usize; 3]],
-    edges: &[usize],
+    tables: &Tables<'_>,
     points: &[i64],
 ) -> Result<Option<usize>, Refusal>
-    ensures { FirstSays state corners.now rings.now polygons.now boxes.now parts.now edges.now points.now result }
+    ensures { FirstIn state tables.now points.now result }
 {
     judge_points(points)?;
     for k in 0..points.len() / 2 {
         let spot = Spot::OnGrid(corner_at(points, k));
-        let location = locate(state, corners, rings, polygons, boxes, parts, edges, spot)?;
-        if !is_outside(location) {
+        let location = locate(state, tables, spot)?;
+        if location != Location::Outside {
             return Ok(Some(k));
         }
     }

@@ -60,10 +60,10 @@ lengths_length start [] = refl
 lengths_length start (end ∷ table) = ap suc (lengths_length end table)
 
 -- ---- what is accepted, or sound, fits
-pub accepted_fits : (kind : Kind) (coordinates : List ℤ) (lengths counts : List ℕ) → plan_verdict (record { kind = kind; coordinates = coordinates; lengths = lengths; counts = counts }) ≡ Accepted → Fitting Lengths kind coordinates lengths counts
-accepted_fits kind coordinates lengths counts e =
-    let h = even (record { kind = kind; coordinates = coordinates; lengths = lengths; counts = counts }) e in
-    record { by_ring = fits_lengths _ 0 lengths (omega (arith, h.corners)); by_polygon = λ list. fits_lengths _ 0 counts (omega (arith, h.rings list)) }
+pub accepted_fits : (plan : Plan) → plan_verdict plan ≡ Accepted → Fitting Lengths plan.kind plan.coordinates plan.lengths plan.counts
+accepted_fits plan e =
+    let h = even plan e in
+    record { by_ring = fits_lengths _ 0 plan.lengths (omega (arith, h.corners)); by_polygon = λ list. fits_lengths _ 0 plan.counts (omega (arith, h.rings list)) }
 
 pub sound_fits : (state : State) (corners : List ℤ) (rings polygons : List ℕ) → PlanSound state corners rings polygons
     → Fitting Ends state.kind (take (2 * state.corners) corners) (take state.rings rings) (take (polygons_in state.kind state.polygons) polygons)

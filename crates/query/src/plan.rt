@@ -6,10 +6,10 @@ ghost use Rattle.rules.specs.Tables.{plan_of};
 ghost use Rattle.query.specs.Calls.{PlanShown, SpotShown, LookedUp};
 
 use geom::Point;
-use outlines::half::half_reply;
+use outlines::parity::parity_reply;
 use outlines::rows::Form;
-use outlines::shapes::{list_reply, tree_reply};
-use plans::{all_in_range, judge};
+use outlines::shapes::list_reply;
+use plans::{Plan, all_in_range};
 use rules::{Kind, Location, Refusal, Reply, Spot, State, polygons_in};
 
 // By the plan's kind. A tree's polygon table is not looked at. A function of its own in the machine's code too: in one with the half-grid's
@@ -27,7 +27,7 @@ fn kind_reply(
 {
     match kind {
         Kind::Polygons => list_reply(form, coordinates, rings, polygons, p),
-        Kind::Tree => tree_reply(form, coordinates, rings, p),
+        Kind::Tree => parity_reply::<false>(form, coordinates, rings, p),
     }
 }
 
@@ -46,32 +46,29 @@ fn spot_reply(
 {
     match spot {
         Spot::OnGrid(p) => kind_reply(form, kind, coordinates, rings, polygons, p),
-        Spot::Doubled(p) => half_reply(form, coordinates, rings, p),
+        Spot::Doubled(p) => parity_reply::<true>(form, coordinates, rings, p),
     }
 }
 
-/// Where a spot lies in a plan as it is handed in: coordinates x, y, x, y, .., the length of each ring and, for a list, how many rings each
-/// polygon has.
+/// Where a spot lies in a plan as it is handed in.
 ///
-/// Refused with 4 (`TooMany`) or else 3 (`Uneven`) where `plans::judge` refuses the plan, whatever the spot is. Otherwise the place; a
+/// Refused with 4 (`TooMany`) or else 3 (`Uneven`) where `Plan::judge` refuses the plan, whatever the spot is. Otherwise the place; a
 /// spot out of range, or a plan with any corner out of range, gives outside.
-pub fn locate(
-    kind: Kind,
-    coordinates: &[i64],
-    lengths: &[usize],
-    counts: &[usize],
-    spot: Spot,
-) -> Reply
-    ensures { result ≡ answer (plan_verdict (record { kind = kind; coordinates = coordinates.now; lengths = lengths.now; counts = counts.now })) (spot_reply (record { kind = kind; coordinates = coordinates.now; lengths = lengths.now; counts = counts.now }) spot) }
+pub fn locate(plan: &Plan<'_>, spot: Spot) -> Reply
+    ensures { result ≡ answer (plan_verdict plan.now) (spot_reply plan.now spot) }
 {
-    judge(kind, coordinates, lengths, counts)?;
-    if !spot.in_range() {
+    plan.judge()?;
+    if !spot.in_range() || !all_in_range(plan.coordinates) {
         return Ok(Location::Outside);
     }
-    if !all_in_range(coordinates) {
-        return Ok(Location::Outside);
-    }
-    spot_reply(Form::Lengths, kind, coordinates, lengths, counts, spot)
+    spot_reply(
+        Form::Lengths,
+        plan.kind,
+        plan.coordinates,
+        plan.lengths,
+        plan.counts,
+        spot,
+    )
 }
 
 /// Where a spot lies in the plan that prepared tables hold, ring by ring: corners, where each ring ends, and where each polygon's rings end.
@@ -91,10 +88,7 @@ pub fn locate_by_rings(
     let n = state.corners;
     let r = state.rings;
     let q = polygons_in(kind, state.polygons);
-    if state.out_of_range {
-        return Ok(Location::Outside);
-    }
-    if !spot.in_range() {
+    if state.out_of_range || !spot.in_range() {
         return Ok(Location::Outside);
     }
     if (corners.len() / 2 < n) | ((rings.len() < r) | (polygons.len() < q)) {

@@ -34,7 +34,7 @@ fn beyond(ray: Ray, a: Point, b: Point) -> bool
     }
 }
 
-// A turn to the left where the flag is set, else to the right.
+// A turn to the left where the flag is set, else to the right: `Sign::from(flag)` would not say which side the flag means.
 fn left_if(flag: bool) -> Sign
     ensures { result ≡ left_if flag }
 {
@@ -58,6 +58,7 @@ fn passing_turn(ray: Ray, rises: bool, a: Point, b: Point, p: Point) -> Sign
 
 /// How the edge from a to b counts for p along the ray. Turning the plane keeps the turn of three points, so only the heights are
 /// turned, and no coordinate is negated: any points will do.
+// One generic function under this and `rings::crossings::crossing_of` was proved, and look-ups took 1 to 3 hundredths more, some 7.
 pub fn crossing_along(ray: Ray, a: Point, b: Point, p: Point) -> Crossing
     ensures { result ≡ crossing_along ray a b p }
 {

@@ -3,9 +3,7 @@ ghost use Rattle.std.specs.Prelude.{◌≡◌};
 ghost use Rattle.std.specs.Int.Signed.{le_z};
 ghost use Rattle.integers.specs.Words.{value_of};
 ghost use Rattle.rules.specs.Rays.{distance, nearer as nearer_of, ray_of};
-ghost use Rattle.rays.specs.Doubles.{near_doubled_rect};
 
-use crate::doubles::doubled_rect;
 use geom::{Point, Rect};
 use integers::{Signed, difference};
 use rules::Ray;
@@ -45,7 +43,7 @@ fn nearer(root: Rect, p: Point, first: Ray, second: Ray) -> Ray
 }
 
 /// The ray that reaches the root box's side soonest, ties in the order right, left, up, down; right if there are no edges.
-/// For any box and point.
+/// For any box and point; on the half-grid the box is the root box doubled (`doubled_rect`).
 pub fn ray_of(n: usize, root: Rect, p: Point) -> Ray
     ensures { result ≡ ray_of n root p }
 {
@@ -55,12 +53,4 @@ pub fn ray_of(n: usize, root: Rect, p: Point) -> Ray
     let upright = nearer(root, p, Ray::Up, Ray::Down);
     let others = nearer(root, p, Ray::Left, upright);
     nearer(root, p, Ray::Right, others)
-}
-
-/// The ray for a point of the half-grid: the same choice over the doubled root box. A corner of the box that is out of range, which no
-/// sound tables have but those without edges, is not doubled.
-pub fn half_ray_of(n: usize, root: Rect, p: Point) -> Ray
-    ensures { result ≡ ray_of n (near_doubled_rect root) p }
-{
-    ray_of(n, doubled_rect(root), p)
 }

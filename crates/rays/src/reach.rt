@@ -1,7 +1,7 @@
 // The rectangle that a ray crosses, by which a walk picks the edges (document 01, items 6 and 7; `ray_segments` and `locate_doubled` of
 // src/prepared.rs).
 ghost use Rattle.std.specs.Prelude.{◌≡◌};
-ghost use Rattle.rays.specs.Reach.{floor_point, ceiling_point, stretched as stretched_to, ray_rect, half_rect};
+ghost use Rattle.rays.specs.Reach.{stretched as stretched_to, ray_rect, half_rect};
 
 use geom::{Point, Rect};
 use integers::{ceiling_half, floor_half};
@@ -50,29 +50,17 @@ pub fn ray_rect(ray: Ray, root: Rect, p: Point) -> Rect
     stretched(ray, root, p, p)
 }
 
-// Half of a doubled point, rounded down in x and in y.
-fn floor_point(p: Point) -> Point
-    ensures { result ≡ floor_point p }
-{
-    Point {
-        x: floor_half(p.x),
-        y: floor_half(p.y),
-    }
-}
-
-// Half of a doubled point, rounded up.
-fn ceiling_point(p: Point) -> Point
-    ensures { result ≡ ceiling_point p }
-{
-    Point {
-        x: ceiling_half(p.x),
-        y: ceiling_half(p.y),
-    }
-}
-
 /// The same for a doubled point, among corners that are not doubled: from its halves, rounded outwards.
 pub fn half_rect(ray: Ray, root: Rect, p: Point) -> Rect
     ensures { result ≡ half_rect ray root p }
 {
-    stretched(ray, root, floor_point(p), ceiling_point(p))
+    let low = Point {
+        x: floor_half(p.x),
+        y: floor_half(p.y),
+    };
+    let high = Point {
+        x: ceiling_half(p.x),
+        y: ceiling_half(p.y),
+    };
+    stretched(ray, root, low, high)
 }

@@ -8,15 +8,17 @@
 // larger one each call is refused once for every reason that it has, and the records have to be as they were.
 #![tactic(auto)]
 
-ghost use Rattle.std.specs.Prelude.{◌≤◌};
-
+use boxes::previous_corner;
 use corrections::move_corner;
-use geom::Point;
+use geom::{Point, Rect};
+use index::parts::Part;
 use nodes::{Node, node_at, put_node, refit_cut, refit_leaf};
+use plans::Plan;
 use prepare::prepare;
-use refit::{DEPTH, Way, find_way};
+use refit::{Way, find_way};
 use rules::{Kind, State};
 use std::io;
+use walk::LentPlan;
 use walk::place::place_of_edge;
 
 // The most corners that a plan has, and the nodes of an index over so many.
@@ -34,13 +36,8 @@ fn write(rt: &impl Print, text: &str) -> io::Result<()> {
 // A node of no edges.
 fn no_node() -> Node {
     Node {
-        min_x: 0,
-        min_y: 0,
-        max_x: 0,
-        max_y: 0,
-        first: 0,
-        count: 0,
-        child: 0,
+        rect: Rect::empty(),
+        part: Part::from([0; 3]),
     }
 }
 
@@ -49,16 +46,9 @@ fn node_of(boxes: &[[i64; 4]], parts: &[[usize; 3]], p: usize) -> Node {
     if boxes.len() <= p || parts.len() <= p {
         return no_node();
     }
-    let [min_x, min_y, max_x, max_y] = boxes[p];
-    let [first, count, child] = parts[p];
     Node {
-        min_x,
-        min_y,
-        max_x,
-        max_y,
-        first,
-        count,
-        child,
+        rect: Rect::from(boxes[p]),
+        part: Part::from(parts[p]),
     }
 }
 
@@ -80,76 +70,50 @@ fn filled(boxes: &[[i64; 4]], parts: &[[usize; 3]]) -> [Node; NODES] {
 
 // Whether every node that is read is the one that the tables hold there.
 fn alike(nodes: &[Node], boxes: &[[i64; 4]], parts: &[[usize; 3]]) -> bool {
-    for p in 0..nodes.len() {
-        let Ok(node) = node_at(nodes, p) else {
-            return false;
-        };
-        if node != node_of(boxes, parts, p) {
-            return false;
-        }
-    }
-    true
+    (0..nodes.len()).all(|p| node_at(nodes, p).is_ok_and(|node| node == node_of(boxes, parts, p)))
 }
 
 // Refits the nodes of a path, the last of them, a leaf, by its edges and then each above it by its children.
-fn along(nodes: &mut [Node], corners: &[i64], rings: &[usize], edges: &[usize], n: usize, way: &Way)
-    requires { way.now.depth ≤ DEPTH }
-{
-    for k in (0..way.depth).rev() {
-        let p = way.path[k];
-        let _ = if k + 1 < way.depth {
-            refit_cut(nodes, p)
-        } else {
-            refit_leaf(nodes, corners, rings, edges, n, rings.len(), p)
-        };
+fn along(nodes: &mut [Node], plan: &LentPlan<'_>, way: &Way) {
+    let [above @ .., leaf] = way.path.as_slice() else {
+        return;
+    };
+    let _ = refit_leaf(
+        nodes,
+        plan.corners,
+        plan.rings,
+        plan.edges,
+        plan.n,
+        plan.count,
+        *leaf,
+    );
+    for &p in above.iter().rev() {
+        let _ = refit_cut(nodes, p);
     }
 }
 
 // Refits the nodes above edge e.
-fn refit_above(
-    nodes: &mut [Node],
-    corners: &[i64],
-    rings: &[usize],
-    boxes: &[[i64; 4]],
-    parts: &[[usize; 3]],
-    edges: &[usize],
-    n: usize,
-    e: usize,
-) {
-    let Ok(k) = place_of_edge(corners, rings, boxes, parts, edges, n, rings.len(), e) else {
+fn refit_above(nodes: &mut [Node], plan: &LentPlan<'_>, e: usize) {
+    let Ok(k) = place_of_edge(plan, e) else {
         return;
     };
-    if let Ok(way) = find_way(rings, parts, edges, n, rings.len(), k) {
-        along(nodes, corners, rings, edges, n, &way);
+    if let Ok(way) = find_way(plan.rings, plan.parts, plan.edges, plan.n, plan.count, k) {
+        along(nodes, plan, &way);
     }
 }
 
-// The edge that ends at a corner.
+// The edge that ends at a corner, in the ring that holds it: the first to end after it.
 fn edge_before(rings: &[usize], corner: usize) -> usize {
-    let mut start = 0;
-    for &end in rings {
-        if corner == start && start < end {
-            return end - 1;
-        }
-        start = end;
-    }
-    corner.saturating_sub(1)
+    let Some(ring) = rings.iter().position(|&end| corner < end) else {
+        return corner;
+    };
+    previous_corner(rings, ring, corner)
 }
 
 // Refits the records after a move of a corner, along the path to the edge that starts there and to the one that ends there.
-fn refit_both(
-    nodes: &mut [Node],
-    corners: &[i64],
-    rings: &[usize],
-    boxes: &[[i64; 4]],
-    parts: &[[usize; 3]],
-    edges: &[usize],
-    n: usize,
-    corner: usize,
-) {
-    let before = edge_before(rings, corner);
-    refit_above(nodes, corners, rings, boxes, parts, edges, n, corner);
-    refit_above(nodes, corners, rings, boxes, parts, edges, n, before);
+fn refit_both(nodes: &mut [Node], plan: &LentPlan<'_>, corner: usize) {
+    refit_above(nodes, plan, corner);
+    refit_above(nodes, plan, edge_before(plan.rings, corner));
 }
 
 // Moves each corner in turn, once far out and once back in, so many moves together. Whether every move is accepted and the records are
@@ -179,7 +143,16 @@ fn moved(
             return false;
         };
         now = next;
-        refit_both(&mut records, corners, rings, boxes, parts, edges, n, corner);
+        let plan = LentPlan {
+            corners,
+            rings,
+            boxes,
+            parts,
+            edges,
+            n,
+            count: rings.len(),
+        };
+        refit_both(&mut records, &plan, corner);
         held &= alike(&records, boxes, parts);
     }
     held
@@ -209,13 +182,8 @@ fn refused(
 fn damaged(nodes: [Node; NODES], first: usize, count: usize, child: usize) -> [Node; NODES] {
     let mut list = nodes;
     list[6] = Node {
-        min_x: 1,
-        min_y: 2,
-        max_x: 3,
-        max_y: 4,
-        first,
-        count,
-        child,
+        rect: Rect::new(Point { x: 1, y: 2 }, Point { x: 3, y: 4 }),
+        part: Part::from([first, count, child]),
     };
     list
 }
@@ -326,7 +294,12 @@ fn examine(
 
 // Prepares a tree of three rings, of at most 20 corners together, and asks.
 fn examine_plan(rt: &impl Print, coordinates: &[i64], lengths: &[usize]) -> io::Result<()> {
-    let counts = [];
+    let plan = Plan {
+        kind: Kind::Tree,
+        coordinates,
+        lengths,
+        counts: &[],
+    };
     let mut corners = [0; 2 * CORNERS];
     let mut rings = [0; 3];
     let mut polygons = [];
@@ -334,10 +307,7 @@ fn examine_plan(rt: &impl Print, coordinates: &[i64], lengths: &[usize]) -> io::
     let mut parts = [[0; 3]; NODES];
     let mut edges = [0; CORNERS];
     match prepare(
-        Kind::Tree,
-        coordinates,
-        lengths,
-        &counts,
+        &plan,
         &mut corners,
         &mut rings,
         &mut polygons,

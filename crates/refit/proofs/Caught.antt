@@ -35,9 +35,9 @@ module _ (n count : ℕ) (rings : List ℕ) (parts : List (List ℕ)) (edges : L
     not_refused place (Err _) s = absurd (s.never place corners boxes T)
 
     -- a path with a node whose part does not hold the place
-    pub not_off : (way : Way) (j : ℕ) → j < way.depth → (Holds parts (get_or way.path j 0) k → ⊥) → WaySays n count rings parts edges k (Ok way) → ⊥
-    not_off way j l f s = f (path_holds n corners rings boxes parts edges T.index k s.found.place way.path way.depth s.found.path_to.leads j l).0
+    pub not_off : (way : Way) (j : ℕ) → j < length way.path.items → (Holds parts (get_or way.path.items j 0) k → ⊥) → WaySays n count rings parts edges k (Ok way) → ⊥
+    not_off way j l f s = f (path_holds n corners rings boxes parts edges T.index k s.found.place way.path.items (length way.path.items) s.found.path_to.leads j l).0
 
     -- a path without a node whose part holds it
-    pub not_left_out : (way : Way) (p : ℕ) → p < node_count n → Holds parts p k → ((j : ℕ) → j < way.depth → get_or way.path j 0 ≡ p → ⊥) → WaySays n count rings parts edges k (Ok way) → ⊥
-    not_left_out way p l h f s = let (j, t, e) = path_whole n corners rings boxes parts edges T.index k s.found.place way.path way.depth s.found.path_to p l h in f j t e
+    pub not_left_out : (way : Way) (p : ℕ) → p < node_count n → Holds parts p k → ((j : ℕ) → j < length way.path.items → get_or way.path.items j 0 ≡ p → ⊥) → WaySays n count rings parts edges k (Ok way) → ⊥
+    not_left_out way p l h f s = let (j, t, e) = path_whole n corners rings boxes parts edges T.index k s.found.place way.path.items (length way.path.items) s.found.path_to p l h in f j t e

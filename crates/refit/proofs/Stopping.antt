@@ -1,12 +1,13 @@
 -- The corners at which the edges of a leaf end, one edge after another, and with them the way to a place. Assumes nothing.
 use mathlib.Core.Path.{◌≡◌, refl, sym, ap, ◌∙◌, subst}
-use mathlib.Core.List.{List}
+use mathlib.Core.List.{List, [], ◌∷◌, ◌++◌}
 use Prim.Native.Nat.{ℕ, ◌+◌, ◌-◌, ◌≤◌, ◌<◌}
 use native.Mathlib.Decide.{ℕ_discrete}
 use native.Mathlib.Omega.{arith}
 use lib.IntN.{ℤ}
-use lib.ListN.{length, get_or, set}
-use lib.Seq.{get_or-set_same, get_or-set_other}
+use lib.ListN.{length, get_or}
+use Rattle.std.proofs.Math.Seq.{get_or-append_seam}
+use Rattle.std.proofs.lemmas.List.{get_or_append_left}
 use Rattle.boxes.specs.Rings.{start_of, next_in, next_corner, RingAt, RingEnds}
 use Rattle.boxes.specs.Boxes.{Names}
 use Rattle.boxes.proofs.Rings.{start_pred, searchable, next_of_ring, next_inside}
@@ -20,9 +21,9 @@ module _ (n count : ℕ) (rings edges : List ℕ) (f : ℕ) where
   stop_named : RingEnds n count rings → (e r : ℕ) → RingAt rings count e r → (d : ℕ) → d ≡ next_in (start_of rings r) (get_or rings r 0) e → d ≡ next_corner rings e
   stop_named R e r A d q = q ∙ sym (next_of_ring n count rings R e r A)
 
-  pub stops_more : (m : ℕ) (stops : List ℕ) → Stops n count rings edges f m stops → m < length stops → (r : ℕ) → RingAt rings count (get_or edges (f + m) 0) r → get_or edges (f + m) 0 < n
-      → (d : ℕ) → d ≡ next_in (start_of rings r) (get_or rings r 0) (get_or edges (f + m) 0) → d < n → Stops n count rings edges f (m + 1) (set stops m d)
-  stops_more m stops T room r A e d q h = record {
+  pub stops_more : (m : ℕ) (stops : List ℕ) → length stops ≡ m → Stops n count rings edges f m stops → (r : ℕ) → RingAt rings count (get_or edges (f + m) 0) r → get_or edges (f + m) 0 < n
+      → (d : ℕ) → d ≡ next_in (start_of rings r) (get_or rings r 0) (get_or edges (f + m) 0) → d < n → Stops n count rings edges f (m + 1) (stops ++ d ∷ [])
+  stops_more m stops long T r A e d q h = record {
     edge = λ j l. edge j l (ℕ_discrete j m);
     inside = λ j l. inside j l (ℕ_discrete j m);
     named = λ R j l. named R j l (ℕ_discrete j m);
@@ -32,16 +33,16 @@ module _ (n count : ℕ) (rings edges : List ℕ) (f : ℕ) where
       edge j l (yes s) = rw s e
       edge j l (no s) = T.edge j (omega arith)
 
-      new : (j : ℕ) → j ≡ m → get_or (set stops m d) j 0 ≡ d
-      new j s = ap (λ (x : ℕ). get_or (set stops m d) x 0) s ∙ get_or-set_same stops m d 0 room
+      new : (j : ℕ) → j ≡ m → get_or (stops ++ d ∷ []) j 0 ≡ d
+      new j s = ap (λ (x : ℕ). get_or (stops ++ d ∷ []) x 0) (s ∙ sym long) ∙ get_or-append_seam stops d [] 0
 
-      inside : (j : ℕ) → j < m + 1 → Dec (j ≡ m) → get_or (set stops m d) j 0 < n
+      inside : (j : ℕ) → j < m + 1 → Dec (j ≡ m) → get_or (stops ++ d ∷ []) j 0 < n
       inside j l (yes s) = rw (new j s) h
-      inside j l (no s) = rw (get_or-set_other stops m j d 0 s) (T.inside j (omega arith))
+      inside j l (no s) = rw (get_or_append_left stops (d ∷ []) 0 j (omega (arith, long))) (T.inside j (omega arith))
 
-      named : RingEnds n count rings → (j : ℕ) → j < m + 1 → Dec (j ≡ m) → get_or (set stops m d) j 0 ≡ next_corner rings (get_or edges (f + j) 0)
+      named : RingEnds n count rings → (j : ℕ) → j < m + 1 → Dec (j ≡ m) → get_or (stops ++ d ∷ []) j 0 ≡ next_corner rings (get_or edges (f + j) 0)
       named R j l (yes s) = new j s ∙ stop_named R (get_or edges (f + m) 0) r A d q ∙ ap (λ (x : ℕ). next_corner rings (get_or edges (f + x) 0)) (sym s)
-      named R j l (no s) = get_or-set_other stops m j d 0 s ∙ T.named R j (omega arith)
+      named R j l (no s) = get_or_append_left stops (d ∷ []) 0 j (omega (arith, long)) ∙ T.named R j (omega arith)
 
   -- on sound tables each edge ends at a corner
   pub stop_outside : (m j : ℕ) → j < m → (r : ℕ) → RingAt rings count (get_or edges (f + j) 0) r → (d : ℕ) → d ≡ next_in (start_of rings r) (get_or rings r 0) (get_or edges (f + j) 0) → n ≤ d → RingEnds n count rings → Names n edges f m → ⊥
@@ -66,18 +67,18 @@ module _ (n count : ℕ) (rings : List ℕ) (parts : List (List ℕ)) (edges : L
   way_unlent f = record { number = refl; never = λ place corners boxes T. f (sound_lent place corners boxes T) }
 
   -- a path, and where the edges of its leaf end, make the way
-  pub way_found : (path stops : List ℕ) (depth nodes : ℕ) → length path ≡ 18 → length stops ≡ 8 → Lent n count k rings (length parts) (length edges) → nodes ≡ node_count n → PathTo n parts nodes k path depth
+  pub way_found : (path stops : List ℕ) (depth nodes : ℕ) → depth ≤ length path → count_at parts (get_or path (depth - 1) 0) ≤ length stops → Lent n count k rings (length parts) (length edges) → nodes ≡ node_count n → PathTo n parts nodes k path depth
       → Stops n count rings edges (first_at parts (get_or path (depth - 1) 0)) (count_at parts (get_or path (depth - 1) 0)) stops → Found n count rings parts edges k path stops depth
   way_found path stops depth nodes room space L all P T = record {
     place = L.place;
     lent = L;
     fine = record {
       some = P.leads.some;
-      path_reach = omega (arith, P.leads.few);
+      path_reach = room;
       parts_reach = L.parts_reach;
       nodes = λ j l. inside j l (ℕ_discrete j (depth - 1));
       children = λ j l. let h = (P.leads.down j l).children in omega arith;
-      spans = record { edges_reach = omega (arith, P.leaf.fits, L.edges_reach); stops_reach = omega (arith, P.leaf.small); start = T.edge; stop = T.inside };
+      spans = record { edges_reach = omega (arith, P.leaf.fits, L.edges_reach); stops_reach = space; start = T.edge; stop = T.inside };
     };
     path_to = subst (λ (m : ℕ). PathTo n parts m k path depth) all P;
     stops_are = T;

@@ -4,6 +4,7 @@ use Rattle.rules.specs.declared.Refusal as Refusal
 use Rattle.rules.specs.declared.Unsound.{Unsound}
 use Rattle.rules.specs.Nodes.{node_count}
 use Rattle.rules.specs.Numbers.{refusal_number}
+use Rattle.arrayvec.specs.ArrayVec.{ArrayVec}
 use Rattle.boxes.specs.Boxes.{Names}
 use Rattle.boxes.specs.Rings.{next_corner, RingEnds}
 use Rattle.index.specs.Parts.{first_at, count_at, child_at}
@@ -81,8 +82,8 @@ pub record RefitSound (n count : ℕ) (corners : List ℤ) (rings : List ℕ) (b
   pub ends : RingEnds n count rings
   pub index : IndexSound n corners rings boxes parts edges
 
-abbrev pub PathSays : ℕ → List (List ℕ) → ℕ → ℕ → Result Way Unsound → Type 0
-PathSays n parts nodes k (Ok way) = (length way.path ≡ 18) × PathTo n parts nodes k way.path way.depth
+abbrev pub PathSays : ℕ → List (List ℕ) → ℕ → ℕ → Result (ArrayVec ℕ) Unsound → Type 0
+PathSays n parts nodes k (Ok path) = PathTo n parts nodes k path.items (length path.items)
 PathSays n parts nodes k (Err _) = (count : ℕ) (corners : List ℤ) (rings : List ℕ) (boxes : List (List ℤ)) (edges : List ℕ) → RefitSound n count corners rings boxes parts edges → ⊥
 
 -- ---- the corners at which a leaf's edges end
@@ -93,8 +94,8 @@ pub record Stops (n count : ℕ) (rings edges : List ℕ) (f m : ℕ) (stops : L
   pub inside : (j : ℕ) → j < m → get_or stops j 0 < n
   pub named : RingEnds n count rings → (j : ℕ) → j < m → get_or stops j 0 ≡ next_corner rings (get_or edges (f + j) 0)
 
-abbrev pub StopsSay : ℕ → ℕ → List ℕ → List ℕ → ℕ → ℕ → Result (List ℕ) Unsound → Type 0
-StopsSay n count rings edges f m (Ok stops) = (length stops ≡ 8) × Stops n count rings edges f m stops
+abbrev pub StopsSay : ℕ → ℕ → List ℕ → List ℕ → ℕ → ℕ → Result (ArrayVec ℕ) Unsound → Type 0
+StopsSay n count rings edges f m (Ok stops) = (length stops.items ≡ m) × Stops n count rings edges f m stops.items
 StopsSay n count rings edges f m (Err _) = RingEnds n count rings → Names n edges f m → ⊥
 
 -- ---- the way to a place
@@ -127,7 +128,7 @@ pub record Found (n count : ℕ) (rings : List ℕ) (parts : List (List ℕ)) (e
 
 pub record WayFound (n count : ℕ) (rings : List ℕ) (parts : List (List ℕ)) (edges : List ℕ) (k : ℕ) (way : Way) : Type 0 where
   pub number : way_number (Ok way) ≡ 0
-  pub found : Found n count rings parts edges k way.path way.stops way.depth
+  pub found : Found n count rings parts edges k way.path.items way.stops.items (length way.path.items)
 
 -- 15: never on sound tables that have a place k
 pub record WayRefused (n count : ℕ) (rings : List ℕ) (parts : List (List ℕ)) (edges : List ℕ) (k : ℕ) : Type 0 where

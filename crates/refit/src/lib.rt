@@ -9,29 +9,29 @@ ghost use Rattle.index.specs.Parts.{first_at, count_at, child_at};
 ghost use Rattle.refit.specs.Paths.{Whether, StepSays, PathSays, StopsSay, Lent, Spans, Fine, WaySays};
 ghost use Rattle.refit.specs.Refits.{span_of, leaf_box, cut_box, leaf_fitted, Refit};
 
+use arrayvec::ArrayVec;
 use boxes::{next_corner, put_rect, rect_at, ring_near};
 use geom::Rect;
 use index::build::LEAF;
 use index::count::node_count;
+use index::parts::part_at;
 use plans::corner_at;
 use rules::Unsound;
 
 /// The most nodes from the root of a sound index down to a leaf.
 pub const DEPTH: usize = 18;
 
-/// The way to a place of the edge list, in arrays of the value's own.
-#[derive(Clone, Copy)]
+/// The way to a place of the edge list.
+#[derive(Drop)]
 pub struct Way {
     /// The nodes on the path to it: the root first, the leaf last.
-    pub path: [usize; DEPTH],
-    /// How many nodes the path has.
-    pub depth: usize,
+    pub path: ArrayVec<usize, DEPTH>,
     /// The corners at which the edges of the leaf end, one after another.
-    pub stops: [usize; LEAF],
+    pub stops: ArrayVec<usize, LEAF>,
 }
 
-// From node p towards place k: the child on whose side the place lies, or `None` at a leaf. Every number that the node names is tested,
-// and 15 says that one is outside its table.
+// From node p towards place k: the child on whose side the place lies, or `None` at a leaf. Refused with 15 (`Unsound`) where a number that
+// the node names is outside its table.
 fn step_to(
     parts: &[[usize; 3]],
     n: usize,
@@ -42,47 +42,41 @@ fn step_to(
     requires { (nodes ≤ length parts.now) × (k < n) }
     ensures { StepSays parts.now n nodes k p result }
 {
-    if nodes <= p {
+    let part = part_at(parts, n, nodes, p)?;
+    if k < part.first {
         return Err(Unsound);
     }
-    let [first, size, child] = parts[p];
-    if k < first || n - first < size {
-        return Err(Unsound);
-    }
-    if size <= LEAF {
+    let Some(left) = part.left_child(nodes)? else {
         return Ok(None);
+    };
+    if k - part.first < part.count / 2 {
+        return Ok(Some(left));
     }
-    if nodes - 1 <= child {
-        return Err(Unsound);
-    }
-    if k - first < size / 2 {
-        return Ok(Some(child));
-    }
-    Ok(Some(child + 1))
+    Ok(Some(left + 1))
 }
 
-// The way to place k but for its stops: its path has the nodes on whose side the place lies, the root first, on sound tables those whose parts
-// hold it.
-fn path_to(parts: &[[usize; 3]], n: usize, nodes: usize, k: usize) -> Result<Way, Unsound>
+// The path to place k: the nodes on whose side the place lies, the root first, on sound tables those whose parts hold it.
+fn path_to(
+    parts: &[[usize; 3]],
+    n: usize,
+    nodes: usize,
+    k: usize,
+) -> Result<ArrayVec<usize, DEPTH>, Unsound>
     requires in_bounds { nodes ≤ length parts.now }
     requires index_place { (nodes ≡ node_count n) × (k < n) }
     ensures { PathSays n parts.now nodes k result }
 {
-    let mut way = Way {
-        path: [0; DEPTH],
-        depth: 1,
-        stops: [0; LEAF],
-    };
+    let mut path = ArrayVec::new();
+    path.push(0);
     let mut p = 0;
     while let Some(child) = step_to(parts, n, nodes, k, p)? {
-        if DEPTH <= way.depth {
+        if path.is_full() {
             return Err(Unsound);
         }
-        way.path[way.depth] = child;
-        way.depth += 1;
+        path.push(child);
         p = child;
     }
-    Ok(way)
+    Ok(path)
 }
 
 // The corners at which the edges at the `size` places from `first` on end, one after another, each edge and each corner tested.
@@ -93,15 +87,15 @@ fn stops_of(
     count: usize,
     first: usize,
     size: usize,
-) -> Result<[usize; LEAF], Unsound>
+) -> Result<ArrayVec<usize, LEAF>, Unsound>
     requires last_ring_ends { (0 < count) × (count ≤ length rings.now) × (get_or rings.now (count - 1) 0 ≡ n) }
     requires size_in_bounds { (first + size ≤ length edges.now) × (size ≤ 8) }
     ensures { StopsSay n count rings.now edges.now first size result }
 {
-    let mut stops = [0; LEAF];
+    let mut stops = ArrayVec::new();
     let mut ring = 0;
-    for j in 0..size {
-        let e = edges[first + j];
+    for k in first..first + size {
+        let e = edges[k];
         if n <= e {
             return Err(Unsound);
         }
@@ -110,7 +104,7 @@ fn stops_of(
         if n <= stop {
             return Err(Unsound);
         }
-        stops[j] = stop;
+        stops.push(stop);
     }
     Ok(stops)
 }
@@ -153,10 +147,10 @@ pub fn find_way(
     if !lent_enough(rings, parts, edges, n, count, k) {
         return Err(Unsound);
     }
-    let mut way = path_to(parts, n, node_count(n), k)?;
-    let [first, size, _] = parts[way.path[way.depth - 1]];
-    way.stops = stops_of(rings, edges, n, count, first, size)?;
-    Ok(way)
+    let path = path_to(parts, n, node_count(n), k)?;
+    let [first, size, _] = parts[path[path.len() - 1]];
+    let stops = stops_of(rings, edges, n, count, first, size)?;
+    Ok(Way { path, stops })
 }
 
 // The box of two corners.
@@ -167,7 +161,8 @@ fn span(corners: &[i64], a: usize, b: usize) -> Rect
     Rect::new(corner_at(corners, a), corner_at(corners, b))
 }
 
-// The smallest box round the edges at the `size` places from `first` on, which end at the corners in `stops`.
+// The smallest box round the edges at the `size` places from `first` on, which end at the corners in `stops`. `boxes::part_box` finds the
+// corners in the ring table, but asks that its ends rise, which only a pass over all of them would show.
 fn leaf_box(
     corners: &[i64],
     edges: &[usize],
@@ -234,10 +229,10 @@ pub fn refit(
     n: usize,
 )
     requires n_in_bounds { (2 * n ≤ length corners.now) × (node_count n ≤ length boxes.old) }
-    requires fine { Fine n parts.now edges.now way.now.path way.now.stops way.now.depth }
-    ensures { Refit n corners.now boxes.old parts.now edges.now way.now.path way.now.stops way.now.depth boxes.new }
+    requires fine { Fine n parts.now edges.now way.now.path.items way.now.stops.items (length way.now.path.items) }
+    ensures { Refit n corners.now boxes.old parts.now edges.now way.now.path.items way.now.stops.items (length way.now.path.items) boxes.new }
 {
-    let above = way.depth - 1;
+    let above = way.path.len() - 1;
     fit_leaf(corners, boxes, parts, edges, &way.stops, n, way.path[above]);
     for k in (0..above).rev() {
         fit_cut(boxes, parts, way.path[k]);

@@ -1,5 +1,5 @@
 -- Wrong replays that the contract rules out, whatever their code is. Assumes nothing.
-use Rattle.std.specs.Prelude.{Err}
+use Rattle.std.specs.Prelude.{Err, Option}
 use mathlib.Core.Path.{◌≡◌, sym, ap, ◌∙◌}
 use mathlib.Core.Bool.{Bool, true, false, cond}
 use mathlib.Core.List.{List, [], ◌++◌, map}
@@ -41,7 +41,7 @@ module _ (plan : Plan) (before after : Lent) (calls : List (List ℤ)) (r : Outc
       judged_is = by_room false (le-ltb (length before.answers) (length calls) room)
 
       -- refusal throughout: a plan that preparing takes is run, to the state that the model's stack gives
-      pub not_refused : (state : State) (nodes : ℕ) → preparing plan (room_of before.tables) ≡ ready_with state nodes → r ≡ Ran (end_state plan (length before.undo) calls)
+      pub not_refused : (state : State) (nodes : Option ℕ) → preparing plan (room_of before.tables) ≡ ready_with state nodes → r ≡ Ran (end_state plan (length before.undo) calls)
       not_refused state nodes e = judged_is ∙ ap (λ q. judged q (end_state plan (length before.undo) calls)) e
 
       -- another number than preparing's

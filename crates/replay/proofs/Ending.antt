@@ -1,5 +1,5 @@
 -- What a replay comes to: demand 3 for the plan handed in, or 12 and outside on a marked one. Assumes nothing.
-use Rattle.std.specs.Prelude.{Err, Ok}
+use Rattle.std.specs.Prelude.{Err, Ok, Option}
 use mathlib.Core.Path.{◌≡◌, refl, sym, ap, ◌∙◌, subst, transport}
 use mathlib.Core.Bool.{Bool, true, false, cond, not}
 use mathlib.Core.List.{List, [], ◌∷◌, ◌++◌, map}
@@ -190,7 +190,7 @@ module _ (plan : Plan) (before : Lent) (calls : List (List ℤ)) where
           (λ t. record { tables = P.tables t; undo = before.undo; answers = before.answers })
 
       -- the calls were run
-      module _ (first : Tables) (state : State) (nodes : ℕ) (P : PreparingTables.Prepared plan before.tables first (ready_with state nodes)) (after : Lent) (end : State)
+      module _ (first : Tables) (state : State) (nodes : Option ℕ) (P : PreparingTables.Prepared plan before.tables first (ready_with state nodes)) (after : Lent) (end : State)
           (r : Called calls (given state first before.undo) before.answers (given end after.tables after.undo) after.answers) where
         is : state ≡ state_of plan
         is = state_is plan before.tables first state nodes P

@@ -1,5 +1,6 @@
 -- What preparing gives a list of calls to start from: a plan just prepared in range, with nothing to undo, whatever stands in the undo table.
 -- Assumes nothing.
+use Rattle.std.specs.Prelude.{Option}
 use mathlib.Core.Path.{◌≡◌, ap}
 use mathlib.Core.Bool.{true}
 use mathlib.Core.List.{List}
@@ -17,7 +18,7 @@ use Rattle.model.specs.Demand.{Fresh}
 use Rattle.replay.specs.Replays.{given}
 use Rattle.prepare.specs.Answers.{ready_with}
 
-module _ (plan : Plan) (before first : Tables) (state : State) (nodes : ℕ) (P : Prepared plan before first (ready_with state nodes)) (undo : List (List ℤ)) where
+module _ (plan : Plan) (before first : Tables) (state : State) (nodes : Option ℕ) (P : Prepared plan before first (ready_with state nodes)) (undo : List (List ℤ)) where
   nothing : state.undo_depth ≡ 0
   nothing = ap (λ (s : State). s.undo_depth) (state_is plan before first state nodes P)
 

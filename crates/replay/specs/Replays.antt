@@ -1,5 +1,5 @@
 -- What a replay promises: a plan prepared, and a coded list of calls run on it (demand 3, over code that runs).
-use Rattle.std.specs.Prelude.{◌≡◌, true, false, cond, List, [], ◌++◌, map, ℕ, eqb, ltb, ℤ, length, drop, Result, Err, Ok}
+use Rattle.std.specs.Prelude.{◌≡◌, true, false, cond, List, [], ◌++◌, map, ℕ, eqb, ltb, ℤ, length, drop, Result, Err, Ok, Option}
 use Rattle.rules.specs.declared.Refusal.{Refusal}
 use Rattle.rules.specs.declared.State.{State}
 use Rattle.rules.specs.Numbers.{refusal_number, refusal_detail}
@@ -114,7 +114,7 @@ detail_due plan room calls answers = cond (too_many plan) 0 (cond (uneven plan) 
 -- the plan was prepared, which left these tables, and the calls were run on them
 pub record Ended (plan : Plan) (before after : Lent) (calls : List (List ℤ)) (state : State) : Type 0 where
   pub first : Tables
-  pub nodes : ℕ
+  pub nodes : Option ℕ
   pub prepared : PreparingTables.Prepared plan before.tables first (ready_with (state_of plan) nodes)
   pub near : plan_in_range plan ≡ true → Replayed plan calls (given (state_of plan) first before.undo) before.answers (given state after.tables after.undo) after.answers
   pub stray : plan_in_range plan ≡ false → ReplayedMarked calls (given (state_of plan) first before.undo) before.answers (given state after.tables after.undo) after.answers

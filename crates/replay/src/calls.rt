@@ -1,15 +1,14 @@
 // One call on a prepared plan, whichever it is, and a list of them.
 ghost use Rattle.std.specs.Prelude.{◌≡◌, ◌≤◌, length};
-ghost use Rattle.model.specs.Numbers.{answer_of};
 ghost use Rattle.model.specs.Prepared.{prepared_of};
 ghost use Rattle.model.specs.Steps.{Step};
 ghost use Rattle.corrections.specs.Answering.{answered, state_after};
 ghost use Rattle.replay.specs.Replays.{Called};
 
 use corrections::{move_corner, undo as take_back};
-use model::{Answer, Call, decode_call};
-use prepared::locate::locate;
-use rules::{Refusal, Reply, Spot, State};
+use model::{Answer, Call};
+use prepared::locate::{Tables, locate};
+use rules::{Refusal, Spot, State};
 
 /// What a call answers, and the state that goes with the tables from now on.
 #[derive(Clone, Copy)]
@@ -18,29 +17,21 @@ pub struct Done {
     pub state: State,
 }
 
-// A look-up leaves the state as it was.
-fn looked_up(state: State, reply: Reply) -> Done
-    ensures { result ≡ record { answer = answer_of reply; state = state } }
-{
-    Done {
-        answer: Answer::from(reply),
-        state,
-    }
-}
-
-// A correction leaves its state where it is accepted, and the state as it was where it is refused.
-fn corrected(state: State, correction: Result<State, Refusal>) -> Done
-    ensures { result ≡ record { answer = answered correction; state = state_after state correction } }
-{
-    match correction {
-        Ok(next) => Done {
-            answer: Answer::Accepted,
-            state: next,
-        },
-        Err(refusal) => Done {
-            answer: Answer::Refused(refusal),
-            state,
-        },
+impl Done {
+    // A correction leaves its state where it is accepted, and the state as it was where it is refused.
+    fn corrected(state: State, correction: Result<State, Refusal>) -> Done
+        ensures { result ≡ record { answer = answered correction; state = state_after state correction } }
+    {
+        match correction {
+            Ok(next) => Done {
+                answer: Answer::Accepted,
+                state: next,
+            },
+            Err(refusal) => Done {
+                answer: Answer::Refused(refusal),
+                state,
+            },
+        }
     }
 }
 
@@ -59,43 +50,35 @@ pub fn run_call(
 ) -> Done
     ensures { Step call (prepared_of state corners.old rings.now polygons.now boxes.old parts.now edges.now undo.old) result.answer (prepared_of result.state corners.new rings.now polygons.now boxes.new parts.now edges.now undo.new) }
 {
-    match call {
-        Call::Move(corner, place) => corrected(
-            state,
-            move_corner(
-                state, corners, rings, boxes, parts, edges, undo, corner, place,
-            ),
-        ),
-        Call::Undo => corrected(
-            state,
-            take_back(state, corners, rings, boxes, parts, edges, undo),
-        ),
-        Call::Locate(p) => looked_up(
-            state,
-            locate(
+    let spot = match call {
+        Call::Move(corner, place) => {
+            return Done::corrected(
                 state,
-                corners,
-                rings,
-                polygons,
-                boxes,
-                parts,
-                edges,
-                Spot::OnGrid(p),
-            ),
-        ),
-        Call::LocateDoubled(p) => looked_up(
-            state,
-            locate(
+                move_corner(
+                    state, corners, rings, boxes, parts, edges, undo, corner, place,
+                ),
+            );
+        }
+        Call::Undo => {
+            return Done::corrected(
                 state,
-                corners,
-                rings,
-                polygons,
-                boxes,
-                parts,
-                edges,
-                Spot::Doubled(p),
-            ),
-        ),
+                take_back(state, corners, rings, boxes, parts, edges, undo),
+            );
+        }
+        Call::Locate(p) => Spot::OnGrid(p),
+        Call::LocateDoubled(p) => Spot::Doubled(p),
+    };
+    let tables = Tables {
+        corners,
+        rings,
+        polygons,
+        boxes,
+        parts,
+        edges,
+    };
+    Done {
+        answer: Answer::from(locate(state, &tables, spot)),
+        state,
     }
 }
 
@@ -117,7 +100,7 @@ pub(crate) fn run_calls(
 {
     let mut now = state;
     for (k, &row) in calls.iter().enumerate() {
-        let call = decode_call(row);
+        let call = Call::from(row);
         let done = run_call(
             now, corners, rings, polygons, boxes, parts, edges, undo, call,
         );

@@ -2,16 +2,16 @@
 // What is promised is demand 3 of document 01, for code that runs.
 #![tactic(auto)]
 
-ghost use Rattle.std.specs.Prelude.{◌≡◌};
+ghost use Rattle.std.specs.Prelude.{◌≡◌, Err};
 ghost use Rattle.replay.specs.declared.ReplayRefusal.TheVariants.{Plan};
-ghost use Rattle.replay.specs.Replays.{Replays};
+ghost use Rattle.replay.specs.Replays.{Replays, replay_number};
 
 pub mod calls;
 
 use calls::run_calls;
-use plans::judge;
+use plans::Plan;
 use prepare::prepare;
-use rules::{Kind, Refusal, State};
+use rules::{Refusal, State};
 
 /// Why no call was run.
 #[derive(Clone, Copy)]
@@ -30,6 +30,18 @@ impl From<Refusal> for ReplayRefusal {
     }
 }
 
+// The number of the refusal; 11 too where the answer table is too short, which is none of the tables that `Refusal::TableTooShort` names.
+impl From<ReplayRefusal> for usize {
+    ghost from_gives = { λ refusal number. number ≡ replay_number (Err refusal) };
+
+    fn from(refusal: ReplayRefusal) -> usize {
+        match refusal {
+            ReplayRefusal::Plan(why) => usize::from(why),
+            ReplayRefusal::AnswersTooShort => 11,
+        }
+    }
+}
+
 /// Prepares a plan and runs a list of calls on it.
 ///
 /// A call is a row of four numbers: 0, corner, x, y moves a corner; 1 takes back the latest move; 2, any, x, y looks a point up; any other first
@@ -39,10 +51,7 @@ impl From<Refusal> for ReplayRefusal {
 /// Refused, in this order, with the plan's 4 or 3, with 11 (`AnswersTooShort`) where the answer table is too short, and with 11 and its table
 /// as `prepare` is; then nothing lent is written.
 pub fn replay(
-    kind: Kind,
-    coordinates: &[i64],
-    lengths: &[usize],
-    counts: &[usize],
+    plan: &Plan<'_>,
     corners: &mut [i64],
     rings: &mut [usize],
     polygons: &mut [usize],
@@ -53,24 +62,13 @@ pub fn replay(
     calls: &[[i64; 4]],
     answers: &mut [i64],
 ) -> Result<State, ReplayRefusal>
-    ensures { Replays (record { kind = kind; coordinates = coordinates.now; lengths = lengths.now; counts = counts.now }) (record { tables = record { corners = corners.old; rings = rings.old; polygons = polygons.old; boxes = boxes.old; parts = parts.old; edges = edges.old }; undo = undo.old; answers = answers.old }) (record { tables = record { corners = corners.new; rings = rings.new; polygons = polygons.new; boxes = boxes.new; parts = parts.new; edges = edges.new }; undo = undo.new; answers = answers.new }) calls.now result }
+    ensures { Replays plan.now (record { tables = record { corners = corners.old; rings = rings.old; polygons = polygons.old; boxes = boxes.old; parts = parts.old; edges = edges.old }; undo = undo.old; answers = answers.old }) (record { tables = record { corners = corners.new; rings = rings.new; polygons = polygons.new; boxes = boxes.new; parts = parts.new; edges = edges.new }; undo = undo.new; answers = answers.new }) calls.now result }
 {
-    judge(kind, coordinates, lengths, counts)?;
+    plan.judge()?;
     if answers.len() < calls.len() {
         return Err(ReplayRefusal::AnswersTooShort);
     }
-    let ready = prepare(
-        kind,
-        coordinates,
-        lengths,
-        counts,
-        corners,
-        rings,
-        polygons,
-        boxes,
-        parts,
-        edges,
-    )?;
+    let ready = prepare(plan, corners, rings, polygons, boxes, parts, edges)?;
     Ok(run_calls(
         ready.state,
         corners,

@@ -12,7 +12,7 @@ use Rattle.rules.specs.Lists.{any_of, sum_of}
 use Rattle.rules.specs.Plans.{corners_of}
 use Rattle.rules.specs.Replies.{ring_reply, by_hole, stronger}
 use Rattle.rings.specs.declared.crossings.Crossing.TheVariants.{Nothing, Down}
-use Rattle.rings.specs.Crossings.{closed_reply}
+use Rattle.rings.specs.Crossings.{with_edge, place_by}
 use Rattle.rings.specs.Half.{crossed_once}
 use Rattle.rings.specs.Parts.{part}
 use Rattle.rings.specs.Places.{flipped_by}
@@ -34,7 +34,7 @@ falls_counted : crossed_once false Down ≡ true
 falls_counted = refl
 
 -- always outside
-once_round : closed_reply (pos 1) Nothing ≡ Inside
+once_round : place_by (with_edge (pos 1) Nothing) ≡ Inside
 once_round = refl
 
 -- ---- a triangle (0, 0) (4, 0) (0, 4)

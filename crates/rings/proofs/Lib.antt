@@ -2,4 +2,5 @@ pub mod EdgeCounts
 pub mod Halving
 pub mod Parts
 pub mod Rounds
+pub mod Tests
 mod Caught

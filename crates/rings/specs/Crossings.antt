@@ -1,5 +1,5 @@
 -- How an edge counts for a point, by item 3's rule (document 01).
-use Rattle.std.specs.Prelude.{Bool, true, false, cond, ℤ, pos, negsuc, ◌+ℤ◌}
+use Rattle.std.specs.Prelude.{Bool, true, false, cond, List, Option, Some, None, ℤ, pos, negsuc, ◌+ℤ◌}
 use Rattle.integers.specs.declared.Sign.{Sign}
 use Rattle.integers.specs.declared.Sign.TheVariants.{Negative, Zero, Positive}
 use Rattle.integers.specs.Signs.{sign_of}
@@ -7,7 +7,7 @@ use Rattle.geom.specs.declared.Point.{Point}
 use Rattle.predicates.specs.Turn.{on_segment}
 use Rattle.rules.specs.declared.Location.{Location}
 use Rattle.rules.specs.declared.Location.TheVariants.{Outside, Inside, OnBoundary}
-use Rattle.rules.specs.Edges.{edge_winding}
+use Rattle.rules.specs.Edges.{edges_of, edge_winding, winding, on_edge}
 use Rattle.rules.specs.Replies.{is_nonzero}
 use Rattle.rings.specs.declared.crossings.Crossing.{Crossing}
 use Rattle.rings.specs.declared.crossings.Crossing.TheVariants.{Nothing, Up, Down, On}
@@ -45,6 +45,15 @@ downward_of Negative = Down
 downward_of Zero = On
 downward_of Positive = Nothing
 
--- the reply, given the winding of all edges but the last, and the last
-abbrev pub closed_reply : ℤ → Crossing → Location
-closed_reply winding last = cond (is_on last) OnBoundary (cond (is_nonzero (winding +ℤ weight_of last)) Inside Outside)
+-- the winding number with one more edge, and none on it
+abbrev pub with_edge : ℤ → Crossing → Option ℤ
+with_edge winding crossing = cond (is_on crossing) None (Some (winding +ℤ weight_of crossing))
+
+-- item 3: none on an edge, and otherwise the winding number
+unfoldable pub ring_winding : List Point → Point → Option ℤ
+ring_winding ring p = cond (on_edge (edges_of ring) p) None (Some (winding ring p))
+
+-- the place that it tells
+abbrev pub place_by : Option ℤ → Location
+place_by None = OnBoundary
+place_by (Some winding) = cond (is_nonzero winding) Inside Outside

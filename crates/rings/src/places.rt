@@ -2,30 +2,9 @@
 ghost use Rattle.std.specs.Prelude.{◌≡◌, cond};
 ghost use Rattle.rules.specs.declared.Location.TheVariants.{Inside, Outside};
 ghost use Rattle.rules.specs.Replies.{by_hole, stronger as stronger_of};
-ghost use Rattle.rings.specs.Places.{is_outside, is_inside, is_boundary, flipped_by};
+ghost use Rattle.rings.specs.Places.{flipped_by};
 
 use rules::Location;
-
-/// Whether the place is outside.
-pub fn is_outside(location: Location) -> bool
-    ensures { result ≡ is_outside location }
-{
-    location == Location::Outside
-}
-
-/// Whether the place is inside.
-pub fn is_inside(location: Location) -> bool
-    ensures { result ≡ is_inside location }
-{
-    location == Location::Inside
-}
-
-/// Whether the place is on the boundary.
-pub fn is_boundary(location: Location) -> bool
-    ensures { result ≡ is_boundary location }
-{
-    location == Location::OnBoundary
-}
 
 /// What a hole decides for its polygon, given where the point lies in the hole.
 pub fn through_hole(location: Location) -> Location

@@ -1,5 +1,6 @@
--- The number of each place, table and refusal (document 01, item 11, "From the input", "From the state"; document 02's requests).
-use Rattle.std.specs.Prelude.{ℕ, ℤ, pos, neg_ℤ, Err, Ok}
+-- The number of each kind, place, table and refusal (document 01, item 11, "From the input", "From the state"; document 02's requests).
+use Rattle.std.specs.Prelude.{cond, ℕ, eqb, ℤ, pos, neg_ℤ, Err, None, Ok, Option, Some}
+use Rattle.rules.specs.declared.Kind.{Kind}
 use Rattle.rules.specs.declared.Location.{Location}
 use Rattle.rules.specs.declared.Location.TheVariants.{Outside, Inside, OnBoundary}
 use Rattle.rules.specs.declared.Table.{Table}
@@ -7,6 +8,14 @@ use Rattle.rules.specs.declared.Table.TheVariants.{Corners, Rings, Polygons, Nod
 use Rattle.rules.specs.declared.Refusal.{Refusal}
 use Rattle.rules.specs.declared.Refusal.TheVariants.{TextTooLong, BadLine, Uneven, TooMany, NoSuchCorner, PlaceOutOfRange, TableTooShort, PlanOutOfRange, UndoFull, NothingToUndo, Unsound, OffGrammar, Unclosed}
 use Rattle.rules.specs.Answering.{Reply, Verdict}
+
+-- 0 names a list, 1 a tree
+abbrev pub kind_named : ℕ → Option Kind
+kind_named number = cond (eqb number 0) (Some Kind.Polygons) (cond (eqb number 1) (Some Kind.Tree) None)
+
+abbrev pub kind_number : Kind → ℕ
+kind_number Kind.Polygons = 0
+kind_number Kind.Tree = 1
 
 -- item 11
 abbrev pub location_number : Location → ℕ

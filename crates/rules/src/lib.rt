@@ -2,8 +2,8 @@
 #![tactic(auto)]
 
 ghost use Rattle.std.specs.Prelude.{◌≡◌};
-ghost use Rattle.rules.specs.Numbers.{location_number, table_number, refusal_number, refusal_detail, reply_number};
-ghost use Rattle.rules.specs.Plans.{is_list};
+ghost use Rattle.std.specs.Result.{result_ok};
+ghost use Rattle.rules.specs.Numbers.{kind_named, kind_number, location_number, table_number, refusal_number, refusal_detail, reply_number};
 ghost use Rattle.rules.specs.Spots.{spot_in_range};
 ghost use Rattle.rules.specs.Tables.{polygons_in};
 
@@ -15,6 +15,15 @@ pub enum Location {
     Outside,
     Inside,
     OnBoundary,
+}
+
+// The number of a place: 0 outside, 1 inside, 2 on the boundary.
+impl From<Location> for usize {
+    ghost from_gives = { λ location number. number ≡ location_number location };
+
+    fn from(location: Location) -> usize {
+        location as usize
+    }
 }
 
 /// The lent tables that refusal 11 names.
@@ -29,7 +38,16 @@ pub enum Table {
     Output,
 }
 
-/// Why a call is refused. `refusal_number` and `refusal_detail` give the numbers of document 01 and of document 02's requests.
+// The number of a table: 1 corners, 2 rings, 3 polygons, 4 nodes, 5 edges, 6 the output of Well-Known Text.
+impl From<Table> for usize {
+    ghost from_gives = { λ table number. number ≡ table_number table };
+
+    fn from(table: Table) -> usize {
+        table as usize
+    }
+}
+
+/// Why a call is refused. `usize::from` gives the number, that of document 01 or of document 02's requests.
 #[derive(Clone, Copy)]
 pub enum Refusal {
     /// 1: the text is too long, to be read or to be written.
@@ -59,6 +77,43 @@ pub enum Refusal {
     /// 22: in Well-Known Text a ring whose ends differ or of fewer than two positions; in a plan to be written as Well-Known Text a tree or
     /// an empty ring (document 02, R-1).
     Unclosed,
+}
+
+impl Refusal {
+    /// The line that refusal 2 names, the table that refusal 11 names, the place that refusal 21 names, and 0 with any other.
+    pub fn detail(self) -> usize
+        ensures { result ≡ refusal_detail self }
+    {
+        match self {
+            Refusal::BadLine(line) => line,
+            Refusal::TableTooShort(table) => usize::from(table),
+            Refusal::OffGrammar(place) => place,
+            _ => 0,
+        }
+    }
+}
+
+// The number of a refusal, in document 01 or document 02.
+impl From<Refusal> for usize {
+    ghost from_gives = { λ refusal number. number ≡ refusal_number refusal };
+
+    fn from(refusal: Refusal) -> usize {
+        match refusal {
+            Refusal::TextTooLong => 1,
+            Refusal::BadLine(_) => 2,
+            Refusal::Uneven => 3,
+            Refusal::TooMany => 4,
+            Refusal::NoSuchCorner => 5,
+            Refusal::PlaceOutOfRange => 6,
+            Refusal::TableTooShort(_) => 11,
+            Refusal::PlanOutOfRange => 12,
+            Refusal::UndoFull => 13,
+            Refusal::NothingToUndo => 14,
+            Refusal::Unsound => 15,
+            Refusal::OffGrammar(_) => 21,
+            Refusal::Unclosed => 22,
+        }
+    }
 }
 
 /// 15: the tables are not sound. The error of what can fail with this refusal alone.
@@ -108,6 +163,30 @@ pub enum Kind {
     Tree,
 }
 
+// The kind that a number names: 0 a list, 1 a tree. Refused with 15 where it is another number.
+impl TryFrom<usize> for Kind {
+    type Error = Unsound;
+
+    ghost try_from_gives = { λ number kind. result_ok kind ≡ kind_named number };
+
+    fn try_from(number: usize) -> Result<Kind, Unsound> {
+        match number {
+            0 => Ok(Kind::Polygons),
+            1 => Ok(Kind::Tree),
+            _ => Err(Unsound),
+        }
+    }
+}
+
+// The number of a kind: 0 for a list, 1 for a tree.
+impl From<Kind> for usize {
+    ghost from_gives = { λ kind number. number ≡ kind_number kind };
+
+    fn from(kind: Kind) -> usize {
+        kind as usize
+    }
+}
+
 /// What a caller keeps of a prepared plan beside its tables. A plan that is out of range is document 01's marked plan.
 #[derive(Clone, Copy)]
 pub struct State {
@@ -128,65 +207,11 @@ pub enum Ray {
     Down,
 }
 
-/// Whether a plan is a list: only a list has polygons, and only its polygon table is looked at.
-pub fn is_list(kind: Kind) -> bool
-    ensures { result ≡ is_list kind }
-{
-    kind == Kind::Polygons
-}
-
 /// How many polygons a plan of this kind and with so many entries in its polygon table has: none in a tree.
 pub fn polygons_in(kind: Kind, entries: usize) -> usize
     ensures { result ≡ polygons_in kind entries }
 {
-    if is_list(kind) { entries } else { 0 }
-}
-
-/// 0 outside, 1 inside, 2 on the boundary.
-pub fn location_number(location: Location) -> usize
-    ensures { result ≡ location_number location }
-{
-    location as usize
-}
-
-/// 1 corners, 2 rings, 3 polygons, 4 nodes, 5 edges, 6 the output of Well-Known Text.
-pub fn table_number(table: Table) -> usize
-    ensures { result ≡ table_number table }
-{
-    table as usize
-}
-
-/// The number of a refusal, in document 01 or document 02.
-pub fn refusal_number(refusal: Refusal) -> usize
-    ensures { result ≡ refusal_number refusal }
-{
-    match refusal {
-        Refusal::TextTooLong => 1,
-        Refusal::BadLine(_) => 2,
-        Refusal::Uneven => 3,
-        Refusal::TooMany => 4,
-        Refusal::NoSuchCorner => 5,
-        Refusal::PlaceOutOfRange => 6,
-        Refusal::TableTooShort(_) => 11,
-        Refusal::PlanOutOfRange => 12,
-        Refusal::UndoFull => 13,
-        Refusal::NothingToUndo => 14,
-        Refusal::Unsound => 15,
-        Refusal::OffGrammar(_) => 21,
-        Refusal::Unclosed => 22,
-    }
-}
-
-/// The line that refusal 2 names, the table that refusal 11 names, the place that refusal 21 names, and 0 with any other.
-pub fn refusal_detail(refusal: Refusal) -> usize
-    ensures { result ≡ refusal_detail refusal }
-{
-    match refusal {
-        Refusal::BadLine(line) => line,
-        Refusal::TableTooShort(table) => table_number(table),
-        Refusal::OffGrammar(place) => place,
-        _ => 0,
-    }
+    if kind == Kind::Polygons { entries } else { 0 }
 }
 
 /// A reply as one signed number: the place's, or minus the refusal's.
@@ -194,7 +219,7 @@ pub fn reply_number(reply: Reply) -> i64
     ensures { result ≡ reply_number reply }
 {
     match reply {
-        Ok(location) => location_number(location) as i64,
-        Err(refusal) => 0 - (refusal_number(refusal) as i64),
+        Ok(location) => usize::from(location) as i64,
+        Err(refusal) => 0 - (usize::from(refusal) as i64),
     }
 }

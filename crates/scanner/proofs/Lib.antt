@@ -1,5 +1,6 @@
 mod Pairs
 pub mod Puts
+mod MarkScans
 mod RingScans
 mod PolygonScans
 mod WordScans

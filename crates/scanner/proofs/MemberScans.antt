@@ -2,7 +2,7 @@
 use mathlib.Core.Path.{◌≡◌, refl, sym, ap, ap₂, ◌∙◌}
 use mathlib.Core.Bool.{true, ◌&&◌}
 use mathlib.Core.List.{List, [], ◌∷◌, ◌++◌, append-nil}
-use Prim.Native.Nat.{ℕ, ◌+◌, ◌*◌, ◌≤◌, ◌<◌}
+use Prim.Native.Nat.{ℕ, ◌+◌, ◌*◌, ◌≤◌}
 use native.Mathlib.Omega.{arith}
 use lib.IntN.{ℤ}
 use lib.ListN.{length, length-append}
@@ -10,21 +10,23 @@ use borrow.Author.Tests.{ne_eqb}
 use Rattle.rules.specs.Lists.{total}
 use Rattle.grammar.specs.declared.NextByte.{NextByte}
 use Rattle.grammar.specs.Grammar.{Polygon}
-use Rattle.grammar.specs.Modes.{broken_mode, want_member_mode, empty_member_mode, after_member_mode, want_ring_mode, finished_mode, nothing_event, next_mode, event_of}
+use Rattle.grammar.specs.Modes.{broken_mode, want_member_mode, empty_member_mode, after_member_mode, want_ring_mode, nothing_event, next_mode, event_of}
 use Rattle.grammar.specs.Spellings.{breaks}
 use Rattle.grammar.specs.Scans.{read_from}
 use Rattle.grammar.specs.Tokens.{Resting, NextRead, Read}
 use Rattle.grammar.specs.Plans.{coordinates, every_closed}
 use Rattle.grammar.specs.Plans as Plans
-use Rattle.grammar.proofs.Steps.{stops_early, byte_leads, byte_refused}
+use Rattle.grammar.proofs.Steps.{byte_leads, byte_refused}
 use Rattle.grammar.proofs.Tables.{coordinates_append, lengths_append, counts_append, total_append, coordinates_twice, every_append, and_assoc, and_true}
 use Rattle.scanner.specs.declared.Extent.{Extent}
 use Rattle.std.specs.Prelude.{Some, Ok, Err}
 use Rattle.grammar.specs.declared.OffGrammar.{OffGrammar}
 use Rattle.scanner.specs.Puts.{put}
 use Rattle.scanner.specs.Extents.{no_extent, with_all, Counted}
+use Rattle.scanner.specs.declared.marks.Mark.TheVariants.{Comma, Bracket}
+use Rattle.scanner.specs.Marks.{member_item, MarkThere, MarkRead}
 use Rattle.scanner.specs.Scanned.{so_far_of, WordRead, Adds, PolygonScanned, MemberThere, MemberScanned, AllThere}
-use Rattle.scanner.proofs.Puts.{put_append, put_length}
+use Rattle.scanner.proofs.Puts.{put_append}
 use Rattle.scanner.proofs.WordScans.{member_spelt, word_off, word_whole, word_inside, empty_member}
 
 -- ---- polygons added
@@ -67,10 +69,6 @@ adds_both e e' e'' c c' c'' l l' l'' n n' n'' a b f g =
       lengths_put = g.lengths_put ∙ ap₂ (λ k s. put k (Plans.lengths b) s) y f.lengths_put ∙ sym (put_append e.rings (Plans.lengths a) (Plans.lengths b) l) ∙ ap (λ xs. put e.rings xs l) (sym (lengths_append a b));
       counts_put = g.counts_put ∙ ap₂ (λ k s. put k (Plans.counts b) s) z f.counts_put ∙ sym (put_append e.polygons (Plans.counts a) (Plans.counts b) n) ∙ ap (λ xs. put e.polygons xs n) (sym (counts_append a b));
     }
-
--- tables keep their lengths
-adds_lengths : (e e' : Extent) (c c' : List ℤ) (l l' n n' : List ℕ) (a : List Polygon) → Adds e c c' l l' n n' e' a → (length c' ≡ length c) × (length l' ≡ length l) × (length n' ≡ length n)
-adds_lengths e e' c c' l l' n n' a g = (ap length g.corners_put ∙ put_length (2 * e.corners) (coordinates a) c, ap length g.lengths_put ∙ put_length e.rings (Plans.lengths a) l, ap length g.counts_put ∙ put_length e.polygons (Plans.counts a) n)
 
 -- ---- a member
 
@@ -131,24 +129,6 @@ module _ (text : List ℕ) (at : ℕ) (m : NextByte) (k : NextRead text at m) wh
         few = record { corners = omega arith; rings = omega arith; polygons = omega arith };
       }
 
--- ---- the bytes behind a member
-
-after_rests : Resting after_member_mode
-unfolding next_mode event_of
-after_rests = record { stays = refl; silent = refl; whole = refl }
-
-comma : (next_mode after_member_mode 44 ≡ want_member_mode) × (event_of after_member_mode 44 ≡ nothing_event)
-unfolding next_mode event_of
-comma = (refl, refl)
-
-bracket : (next_mode after_member_mode 41 ≡ finished_mode) × (event_of after_member_mode 41 ≡ nothing_event)
-unfolding next_mode event_of
-bracket = (refl, refl)
-
-other : (b : ℕ) → (b ≡ 32 → ⊥) → (b ≡ 44 → ⊥) → (b ≡ 41 → ⊥) → next_mode after_member_mode b ≡ broken_mode
-unfolding next_mode
-other b s c r = rw (ne_eqb b 32 s, ne_eqb b 44 c, ne_eqb b 41 r) refl
-
 -- ---- the members so far
 
 pub record Members (text : List ℕ) (at : ℕ) (corners₀ corners : List ℤ) (lengths₀ lengths counts₀ counts : List ℕ) (so_far : Extent) (place : ℕ) : Type 0 where
@@ -173,44 +153,37 @@ no_members text at corners lengths counts e z h =
     }
 
 module _ (text : List ℕ) (at : ℕ) (corners₀ corners : List ℤ) (lengths₀ lengths counts₀ counts : List ℕ) (so_far : Extent) (place : ℕ) (g : Members text at corners₀ corners lengths₀ lengths counts₀ counts so_far place) where
-  pub members_lengths : (length corners ≡ length corners₀) × (length lengths ≡ length lengths₀) × (length counts ≡ length counts₀)
-  members_lengths = adds_lengths no_extent so_far corners₀ corners lengths₀ lengths counts₀ counts g.polygons g.adds
-
-  pub members_early : length text ≤ place → read_from text at want_member_mode (so_far_of [] []) ≡ breaks place
-  members_early h = g.means ∙ stops_early text place want_member_mode (so_far_of g.polygons []) h refl
-
-  pub next_off : (broken : ℕ) → ((done : List Polygon) → read_from text place want_member_mode (so_far_of done []) ≡ breaks broken) → read_from text at want_member_mode (so_far_of [] []) ≡ breaks broken
-  next_off broken r = g.means ∙ r g.polygons
-
-  module _ (corners' : List ℤ) (lengths' counts' : List ℕ) (more : Extent) (end : ℕ) (q : MemberThere text place so_far corners corners' lengths lengths' counts counts' more end) (m : NextByte) (k : NextRead text end m) where
+  module _ (corners' : List ℤ) (lengths' counts' : List ℕ) (more : Extent) (end : ℕ) (q : MemberThere text place so_far corners corners' lengths lengths' counts counts' more end) where
     with_it : read_from text at want_member_mode (so_far_of [] []) ≡ read_from text end after_member_mode (so_far_of (g.polygons ++ q.added) [])
     with_it = g.means ∙ q.means g.polygons
 
     adds_it : Adds no_extent corners₀ corners' lengths₀ lengths' counts₀ counts' more (g.polygons ++ q.added)
     adds_it = adds_both no_extent so_far more corners₀ corners corners' lengths₀ lengths lengths' counts₀ counts counts' g.polygons q.added g.adds q.adds
 
-    pub behind_off : (m.byte ≡ Some 44 → ⊥) → (m.byte ≡ Some 41 → ⊥) → read_from text at want_member_mode (so_far_of [] []) ≡ breaks m.at
-    behind_off c r = with_it ∙ byte_refused text end m k after_member_mode (so_far_of (g.polygons ++ q.added) []) after_rests refl (λ b i s. other b s (λ x. c (i ∙ ap Some x)) (λ x. r (i ∙ ap Some x)))
+    pub mark_missed : (off : OffGrammar) → MarkRead text end (Err off) → read_from text at want_member_mode (so_far_of [] []) ≡ breaks off.place
+    mark_missed off k = with_it ∙ k member_item (so_far_of (g.polygons ++ q.added) [])
 
-    pub one_more : m.byte ≡ Some 44 → m.at < length text → Members text at corners₀ corners' lengths₀ lengths' counts₀ counts' more (m.at + 1)
-    one_more c h =
-        let w = k.skipped.on in
+    pub one_more : (next : ℕ) → MarkThere text end Comma next → Members text at corners₀ corners' lengths₀ lengths' counts₀ counts' more next
+    unfolding next_mode event_of
+    one_more next k =
+        let w = k.on in
         let x = q.few.corners in
         let y = q.few.rings in
         let z = q.few.polygons in
         record {
           polygons = g.polygons ++ q.added;
-          means = with_it ∙ byte_leads text end m k after_member_mode (so_far_of (g.polygons ++ q.added) []) 44 want_member_mode nothing_event after_rests c comma.0 comma.1 refl;
+          means = with_it ∙ k.means member_item (so_far_of (g.polygons ++ q.added) []);
           adds = adds_it;
-          inside = omega arith;
+          inside = k.inside;
           few = record { corners = omega arith; rings = omega arith; polygons = omega arith };
         }
 
-    pub members_whole : m.byte ≡ Some 41 → m.at < length text → AllThere text at want_member_mode corners₀ corners' lengths₀ lengths' counts₀ counts' more (m.at + 1)
-    members_whole c h =
+    pub members_whole : (next : ℕ) → MarkThere text end Bracket next → AllThere text at want_member_mode corners₀ corners' lengths₀ lengths' counts₀ counts' more next
+    unfolding next_mode event_of
+    members_whole next k =
         record {
           polygons = g.polygons ++ q.added;
-          means = with_it ∙ byte_leads text end m k after_member_mode (so_far_of (g.polygons ++ q.added) []) 41 finished_mode nothing_event after_rests c bracket.0 bracket.1 refl;
+          means = with_it ∙ k.means member_item (so_far_of (g.polygons ++ q.added) []);
           adds = adds_it;
-          inside = omega arith;
+          inside = k.inside;
         }

@@ -2,52 +2,28 @@
 use mathlib.Core.Path.{◌≡◌, refl, sym, ap, ap₂, ◌∙◌}
 use mathlib.Core.Bool.{Bool, true, false, ◌&&◌}
 use mathlib.Core.List.{List, [], ◌∷◌, ◌++◌, append-nil}
-use Prim.Native.Nat.{ℕ, ◌+◌, ◌-◌, ◌*◌, ◌≤◌, ◌<◌}
+use Prim.Native.Nat.{ℕ, ◌+◌, ◌-◌, ◌*◌, ◌≤◌}
 use native.Mathlib.Omega.{arith}
 use lib.IntN.{ℤ}
 use lib.ListN.{length, set, length-append}
-use borrow.Author.Tests.{ne_eqb}
 use Rattle.rules.specs.Lists.{total}
-use Rattle.grammar.specs.declared.NextByte.{NextByte}
 use Rattle.grammar.specs.Grammar.{Ring, Polygon}
-use Rattle.grammar.specs.Modes.{broken_mode, want_ring_mode, after_ring_mode, nothing_event, polygon_ends_event, next_mode, event_of}
+use Rattle.grammar.specs.Modes.{want_ring_mode, after_ring_mode, next_mode, event_of}
 use Rattle.grammar.specs.Spellings.{breaks}
-use Rattle.grammar.specs.Scans.{is_broken, read_from}
-use Rattle.grammar.specs.Tokens.{Resting, NextRead}
+use Rattle.grammar.specs.Scans.{read_from}
 use Rattle.grammar.specs.Texts.{drop_last}
 use Rattle.grammar.specs.Plans.{is_closed, numbers_of, ring_numbers, ring_lengths, all_closed, every_closed, coordinates}
 use Rattle.grammar.specs.Plans as Plans
-use Rattle.grammar.proofs.Steps.{stops_early, byte_leads, byte_refused}
 use Rattle.grammar.proofs.Tables.{rings_append, ring_lengths_append, total_append, rings_twice, lengths_counted, closed_append, and_assoc, and_true}
 use Rattle.scanner.specs.declared.Extent.{Extent}
-use Rattle.std.specs.Prelude.{Some}
+use Rattle.std.specs.Prelude.{Err}
 use Rattle.scanner.specs.Puts.{put}
 use Rattle.scanner.specs.Extents.{with_ring, with_rings, with_polygon, with_all, Counted}
+use Rattle.scanner.specs.declared.marks.Mark.TheVariants.{Comma, Bracket}
+use Rattle.grammar.specs.declared.OffGrammar.{OffGrammar}
+use Rattle.scanner.specs.Marks.{ring_item, MarkThere, MarkRead}
 use Rattle.scanner.specs.Scanned.{so_far_of, RingThere, after_polygon, PolygonThere}
-use Rattle.scanner.proofs.Puts.{put_append, put_length, put_one}
-
--- ---- the bytes behind a ring
-
-after_rests : (multi : Bool) → Resting (after_ring_mode multi)
-unfolding next_mode event_of
-after_rests multi = record { stays = refl; silent = refl; whole = refl }
-
-comma : (multi : Bool) → (next_mode (after_ring_mode multi) 44 ≡ want_ring_mode multi) × (event_of (after_ring_mode multi) 44 ≡ nothing_event)
-unfolding next_mode event_of
-comma multi = (refl, refl)
-
-bracket : (multi : Bool) → (next_mode (after_ring_mode multi) 41 ≡ after_polygon multi) × (event_of (after_ring_mode multi) 41 ≡ polygon_ends_event)
-unfolding next_mode event_of
-bracket true = (refl, refl)
-bracket false = (refl, refl)
-
-other : (multi : Bool) (b : ℕ) → (b ≡ 32 → ⊥) → (b ≡ 44 → ⊥) → (b ≡ 41 → ⊥) → next_mode (after_ring_mode multi) b ≡ broken_mode
-unfolding next_mode
-other multi b s c r = rw (ne_eqb b 32 s, ne_eqb b 44 c, ne_eqb b 41 r) refl
-
-after_whole : (multi : Bool) → is_broken (after_polygon multi) ≡ false
-after_whole true = refl
-after_whole false = refl
+use Rattle.scanner.proofs.Puts.{put_append, put_one}
 
 -- ---- one ring more
 
@@ -93,18 +69,6 @@ unfolding put ring_numbers ring_lengths
 no_rings text at e corners lengths h f = record { rings = []; counted = none_yet e; means = λ multi done. refl; corners_held = refl; lengths_held = refl; on = omega arith; inside = h; few = f }
 
 module _ (text : List ℕ) (at : ℕ) (e : Extent) (corners₀ corners : List ℤ) (lengths₀ lengths : List ℕ) (so_far : Extent) (place : ℕ) (g : Rings text at e corners₀ corners lengths₀ lengths so_far place) where
-  pub corners_length : length corners ≡ length corners₀
-  corners_length = ap length g.corners_held ∙ put_length (2 * e.corners) (ring_numbers g.rings) corners₀
-
-  pub lengths_length : length lengths ≡ length lengths₀
-  lengths_length = ap length g.lengths_held ∙ put_length e.rings (ring_lengths g.rings) lengths₀
-
-  pub rings_early : length text ≤ place → (multi : Bool) (done : List Polygon) → read_from text at (want_ring_mode multi) (so_far_of done []) ≡ breaks place
-  rings_early h multi done = g.means multi done ∙ stops_early text place (want_ring_mode multi) (so_far_of done g.rings) h refl
-
-  pub ring_off : (broken : ℕ) → ((multi : Bool) (done : List Polygon) (rings : Polygon) → read_from text place (want_ring_mode multi) (so_far_of done rings) ≡ breaks broken) → (multi : Bool) (done : List Polygon) → read_from text at (want_ring_mode multi) (so_far_of done []) ≡ breaks broken
-  ring_off broken r multi done = g.means multi done ∙ r multi done g.rings
-
   module _ (corners' : List ℤ) (lengths' : List ℕ) (more : Extent) (end : ℕ) (q : RingThere text place want_ring_mode so_far corners corners' lengths lengths' more end) where
     with_it : Polygon
     with_it = g.rings ++ (q.ring ∷ [])
@@ -141,54 +105,59 @@ module _ (text : List ℕ) (at : ℕ) (e : Extent) (corners₀ corners : List �
     pub rings_now : more.rings ≡ e.rings + length (g.rings ++ (q.ring ∷ []))
     rings_now = ap (λ z. z.rings) more_is
 
-    module _ (m : NextByte) (k : NextRead text end m) where
-      pub behind_off : (m.byte ≡ Some 44 → ⊥) → (m.byte ≡ Some 41 → ⊥) → (multi : Bool) (done : List Polygon) → read_from text at (want_ring_mode multi) (so_far_of done []) ≡ breaks m.at
-      behind_off c r multi done = means_it multi done ∙ byte_refused text end m k (after_ring_mode multi) (so_far_of done (g.rings ++ (q.ring ∷ []))) (after_rests multi) refl (λ b i s. other multi b s (λ x. c (i ∙ ap Some x)) (λ x. r (i ∙ ap Some x)))
+    pub mark_missed : (off : OffGrammar) → MarkRead text end (Err off) → (multi : Bool) (done : List Polygon) → read_from text at (want_ring_mode multi) (so_far_of done []) ≡ breaks off.place
+    mark_missed off k multi done = means_it multi done ∙ k (ring_item multi) (so_far_of done (g.rings ++ (q.ring ∷ [])))
 
-      pub one_more : m.byte ≡ Some 44 → m.at < length text → Rings text at e corners₀ corners' lengths₀ lengths' more (m.at + 1)
-      one_more c h =
-          let o = g.on in
-          let l = q.on in
-          let w = k.skipped.on in
-          let fc = q.few.corners in
-          let fr = q.few.rings in
-          let fp = q.few.polygons in
-          record {
-            rings = g.rings ++ (q.ring ∷ []);
-            counted = more_is;
-            means = λ multi done. means_it multi done ∙ byte_leads text end m k (after_ring_mode multi) (so_far_of done (g.rings ++ (q.ring ∷ []))) 44 (want_ring_mode multi) nothing_event (after_rests multi) c (comma multi).0 (comma multi).1 refl;
-            corners_held = corners_are;
-            lengths_held = lengths_are;
-            on = omega arith;
-            inside = omega arith;
-            few = record { corners = omega arith; rings = omega arith; polygons = omega arith };
-          }
+    pub one_more : (next : ℕ) → MarkThere text end Comma next → Rings text at e corners₀ corners' lengths₀ lengths' more next
+    unfolding next_mode event_of
+    one_more next k =
+        let o = g.on in
+        let l = q.on in
+        let w = k.on in
+        let fc = q.few.corners in
+        let fr = q.few.rings in
+        let fp = q.few.polygons in
+        record {
+          rings = g.rings ++ (q.ring ∷ []);
+          counted = more_is;
+          means = λ multi done. means_it multi done ∙ k.means (ring_item multi) (so_far_of done (g.rings ++ (q.ring ∷ [])));
+          corners_held = corners_are;
+          lengths_held = lengths_are;
+          on = omega arith;
+          inside = k.inside;
+          few = record { corners = omega arith; rings = omega arith; polygons = omega arith };
+        }
 
-      pub polygon_whole : (e' : Extent) (counts counts' : List ℕ) → m.byte ≡ Some 41 → m.at < length text → e' ≡ with_polygon more → counts' ≡ set counts e.polygons (more.rings - e.rings) → PolygonThere text at e corners₀ corners' lengths₀ lengths' counts counts' e' (m.at + 1)
-      unfolding coordinates Plans.lengths Plans.counts
-      polygon_whole e' counts counts' c h made stored =
-          let o = g.on in
-          let l = q.on in
-          let w = k.skipped.on in
-          let fc = q.few.corners in
-          let fr = q.few.rings in
-          let fp = q.few.polygons in
-          let n = rings_now in
-          let left : more.rings - e.rings ≡ length (g.rings ++ (q.ring ∷ [])) = omega arith in
-          record {
-            rings = g.rings ++ (q.ring ∷ []);
-            means = λ multi done. means_it multi done ∙ byte_leads text end m k (after_ring_mode multi) (so_far_of done (g.rings ++ (q.ring ∷ []))) 41 (after_polygon multi) polygon_ends_event (after_rests multi) c (bracket multi).0 (bracket multi).1 (after_whole multi);
-            adds = record {
-              counted = made ∙ ap with_polygon more_is ∙ one_polygon e (g.rings ++ (q.ring ∷ []));
-              corners_put = corners_are ∙ ap (λ xs. put (2 * e.corners) xs corners₀) (sym (append-nil (ring_numbers (g.rings ++ (q.ring ∷ [])))));
-              lengths_put = lengths_are ∙ ap (λ xs. put e.rings xs lengths₀) (sym (append-nil (ring_lengths (g.rings ++ (q.ring ∷ [])))));
-              counts_put = stored ∙ ap (set counts e.polygons) left ∙ sym (put_one e.polygons (length (g.rings ++ (q.ring ∷ []))) counts);
-            };
-            on = omega arith;
-            inside = omega arith;
-            few = record {
-              corners = let x = ap (λ z. z.corners) made in omega arith;
-              rings = let x = ap (λ z. z.rings) made in omega arith;
-              polygons = let x = ap (λ z. z.polygons) made in omega arith;
-            };
-          }
+    bracket_there : (next : ℕ) → MarkThere text end Bracket next → (multi : Bool) (done : List Polygon) → read_from text end (after_ring_mode multi) (so_far_of done (g.rings ++ (q.ring ∷ []))) ≡ read_from text next (after_polygon multi) (so_far_of (done ++ ((g.rings ++ (q.ring ∷ [])) ∷ [])) [])
+    unfolding next_mode event_of
+    bracket_there next k true done = k.means (ring_item true) (so_far_of done (g.rings ++ (q.ring ∷ [])))
+    bracket_there next k false done = k.means (ring_item false) (so_far_of done (g.rings ++ (q.ring ∷ [])))
+
+    pub polygon_whole : (next : ℕ) → MarkThere text end Bracket next → (e' : Extent) (counts counts' : List ℕ) → e' ≡ with_polygon more → counts' ≡ set counts e.polygons (more.rings - e.rings) → PolygonThere text at e corners₀ corners' lengths₀ lengths' counts counts' e' next
+    unfolding coordinates Plans.lengths Plans.counts
+    polygon_whole next k e' counts counts' made stored =
+        let o = g.on in
+        let l = q.on in
+        let w = k.on in
+        let fc = q.few.corners in
+        let fr = q.few.rings in
+        let fp = q.few.polygons in
+        let n = rings_now in
+        let left : more.rings - e.rings ≡ length (g.rings ++ (q.ring ∷ [])) = omega arith in
+        record {
+          rings = g.rings ++ (q.ring ∷ []);
+          means = λ multi done. means_it multi done ∙ bracket_there next k multi done;
+          adds = record {
+            counted = made ∙ ap with_polygon more_is ∙ one_polygon e (g.rings ++ (q.ring ∷ []));
+            corners_put = corners_are ∙ ap (λ xs. put (2 * e.corners) xs corners₀) (sym (append-nil (ring_numbers (g.rings ++ (q.ring ∷ [])))));
+            lengths_put = lengths_are ∙ ap (λ xs. put e.rings xs lengths₀) (sym (append-nil (ring_lengths (g.rings ++ (q.ring ∷ [])))));
+            counts_put = stored ∙ ap (set counts e.polygons) left ∙ sym (put_one e.polygons (length (g.rings ++ (q.ring ∷ []))) counts);
+          };
+          on = omega arith;
+          inside = k.inside;
+          few = record {
+            corners = let x = ap (λ z. z.corners) made in omega arith;
+            rings = let x = ap (λ z. z.rings) made in omega arith;
+            polygons = let x = ap (λ z. z.polygons) made in omega arith;
+          };
+        }

@@ -2,7 +2,7 @@
 use mathlib.Core.Path.{◌≡◌, refl, sym, ap, ap₂, ◌∙◌}
 use mathlib.Core.Bool.{Bool}
 use mathlib.Core.List.{List, [], ◌∷◌, ◌++◌}
-use Prim.Native.Nat.{ℕ, ◌+◌, ◌*◌, ◌≤◌, ◌<◌}
+use Prim.Native.Nat.{ℕ, ◌+◌, ◌*◌, ◌≤◌}
 use native.Mathlib.Omega.{arith}
 use lib.IntN.{ℤ}
 use lib.ListN.{length, set, length-append}
@@ -10,9 +10,9 @@ use borrow.Author.Tests.{ne_eqb}
 use Rattle.geom.specs.declared.Point.{Point}
 use Rattle.grammar.specs.declared.NextByte.{NextByte}
 use Rattle.grammar.specs.Grammar.{Ring, Polygon}
-use Rattle.grammar.specs.Modes.{broken_mode, want_ring_mode, want_x_mode, nothing_event, after_y_mode, after_ring_mode, Place, corner_event, ring_ends_event, next_mode, event_of}
+use Rattle.grammar.specs.Modes.{broken_mode, want_ring_mode, want_x_mode, nothing_event, after_ring_mode, next_mode, event_of}
 use Rattle.grammar.specs.Spellings.{breaks}
-use Rattle.grammar.specs.Scans.{place_of, read_from}
+use Rattle.grammar.specs.Scans.{SoFar, place_of, read_from}
 use Rattle.grammar.specs.Tokens.{Resting, NextRead, Read}
 use Rattle.grammar.specs.Texts.{drop_last}
 use Rattle.grammar.specs.Plans.{is_closed, numbers_of}
@@ -21,30 +21,15 @@ use Rattle.grammar.proofs.Steps.{stops_early, byte_leads, byte_refused}
 use Rattle.grammar.proofs.Tables.{numbers_append, numbers_twice, lone_open, closed_by}
 use Rattle.grammar.proofs.Texts.{drop_last_lem}
 use Rattle.scanner.specs.declared.Extent.{Extent}
-use Rattle.std.specs.Prelude.{Option, Some, None, unwrap_or, Ok, Err}
+use Rattle.std.specs.Prelude.{Option, Some, None, Ok, Err}
+use Rattle.std.specs.Option.{option_or}
 use Rattle.grammar.specs.declared.OffGrammar.{OffGrammar}
 use Rattle.scanner.specs.Puts.{put}
 use Rattle.scanner.specs.Extents.{with_ring, Counted, closes}
+use Rattle.scanner.specs.declared.marks.Mark.TheVariants.{Comma, Bracket}
+use Rattle.scanner.specs.Marks.{position_item, MarkThere, MarkRead}
 use Rattle.scanner.specs.Scanned.{so_far_of, PositionRead, RingThere, RingScanned}
-use Rattle.scanner.proofs.Puts.{put_append, put_length}
-
--- ---- the bytes behind a position
-
-after_rests : (multi : Bool) (p : Place) → Resting (after_y_mode multi p)
-unfolding next_mode event_of
-after_rests multi p = record { stays = refl; silent = refl; whole = refl }
-
-comma : (multi : Bool) (p : Place) → (next_mode (after_y_mode multi p) 44 ≡ want_x_mode multi) × (event_of (after_y_mode multi p) 44 ≡ corner_event p)
-unfolding next_mode event_of
-comma multi p = (refl, refl)
-
-bracket : (multi : Bool) (p : Place) → (next_mode (after_y_mode multi p) 41 ≡ after_ring_mode multi) × (event_of (after_y_mode multi p) 41 ≡ ring_ends_event p)
-unfolding next_mode event_of
-bracket multi p = (refl, refl)
-
-other : (multi : Bool) (p : Place) (b : ℕ) → (b ≡ 32 → ⊥) → (b ≡ 44 → ⊥) → (b ≡ 41 → ⊥) → next_mode (after_y_mode multi p) b ≡ broken_mode
-unfolding next_mode
-other multi p b s c r = rw (ne_eqb b 32 s, ne_eqb b 44 c, ne_eqb b 41 r) refl
+use Rattle.scanner.proofs.Puts.{put_append}
 
 -- ---- the first position
 
@@ -52,9 +37,9 @@ abbrev head_of : Ring → Option Point
 head_of [] = None
 head_of (p ∷ ring) = Some p
 
-first_kept : (first : Option Point) (p : Point) (ring : Ring) → first ≡ head_of ring → Some (unwrap_or first p) ≡ head_of (ring ++ (p ∷ []))
-first_kept first p [] e = ap (λ o. Some (unwrap_or o p)) e
-first_kept first p (q ∷ ring) e = ap (λ o. Some (unwrap_or o p)) e
+first_kept : (first : Option Point) (p : Point) (ring : Ring) → first ≡ head_of ring → option_or first (Some p) ≡ head_of (ring ++ (p ∷ []))
+first_kept first p [] e = ap (λ o. option_or o (Some p)) e
+first_kept first p (q ∷ ring) e = ap (λ o. option_or o (Some p)) e
 
 closed_so : (first : Option Point) (p : Point) (ring : Ring) → first ≡ head_of ring → closes first p ≡ is_closed (ring ++ (p ∷ []))
 closed_so first p [] e = ap (λ o. closes o p) e ∙ sym (lone_open p)
@@ -79,28 +64,21 @@ unfolding put numbers_of
 no_round text at n corners h = record { points = []; counted = refl; begins = refl; means = λ multi done rings. refl; held = refl; on = omega arith; inside = h }
 
 module _ (text : List ℕ) (at n : ℕ) (corners₀ corners : List ℤ) (first : Option Point) (count place : ℕ) (g : Round text at n corners₀ corners first count place) where
-  pub round_length : length corners ≡ length corners₀
-  round_length = ap length g.held ∙ put_length (2 * n) (numbers_of g.points) corners₀
-
   pub round_early : length text ≤ place → (multi : Bool) (done : List Polygon) (rings : Polygon) → read_from text at (want_x_mode multi) (so_far_of done rings) ≡ breaks place
   round_early h multi done rings = g.means multi done rings ∙ stops_early text place (want_x_mode multi) (record { done = done; rings = rings; ring = g.points }) h refl
 
-  pub position_off : (off : OffGrammar) → PositionRead text place (Err off) → (multi : Bool) (done : List Polygon) (rings : Polygon) → read_from text at (want_x_mode multi) (so_far_of done rings) ≡ breaks off.place
-  position_off off q multi done rings = g.means multi done rings ∙ q.means multi (record { done = done; rings = rings; ring = g.points })
+  module _ (p : Point) (end : ℕ) (q : PositionRead text place (Ok (p, end))) where
+    pub mark_missed : (off : OffGrammar) → MarkRead text end (Err off) → (multi : Bool) (done : List Polygon) (rings : Polygon) → read_from text at (want_x_mode multi) (so_far_of done rings) ≡ breaks off.place
+    mark_missed off k multi done rings =
+        let f : SoFar = record { done = done; rings = rings; ring = g.points } in
+        g.means multi done rings ∙ q.means multi f ∙ k (position_item multi (place_of p)) f
 
-  module _ (p : Point) (end : ℕ) (q : PositionRead text place (Ok (p, end))) (m : NextByte) (k : NextRead text end m) where
-    pub mark_off : (m.byte ≡ Some 44 → ⊥) → (m.byte ≡ Some 41 → ⊥) → (multi : Bool) (done : List Polygon) (rings : Polygon) → read_from text at (want_x_mode multi) (so_far_of done rings) ≡ breaks m.at
-    mark_off c r multi done rings =
-        g.means multi done rings
-        ∙ q.means multi (record { done = done; rings = rings; ring = g.points })
-        ∙ byte_refused text end m k (after_y_mode multi (place_of p)) (record { done = done; rings = rings; ring = g.points }) (after_rests multi (place_of p)) refl (λ b i s. other multi (place_of p) b s (λ x. c (i ∙ ap Some x)) (λ x. r (i ∙ ap Some x)))
-
-    pub one_more : (first' : Option Point) (corners' : List ℤ) → m.byte ≡ Some 44 → first' ≡ Some (unwrap_or first p) → m.at < length text → corners' ≡ put (2 * (n + count)) (p.x ∷ p.y ∷ []) corners → Round text at n corners₀ corners' first' (count + 1) (m.at + 1)
-    unfolding numbers_of
-    one_more first' corners' c e h s =
+    pub one_more : (next : ℕ) → MarkThere text end Comma next → (first' : Option Point) (corners' : List ℤ) → first' ≡ option_or first (Some p) → corners' ≡ put (2 * (n + count)) (p.x ∷ p.y ∷ []) corners → Round text at n corners₀ corners' first' (count + 1) next
+    unfolding numbers_of next_mode event_of
+    one_more next k first' corners' e s =
         let o = g.on in
         let l = q.ends.0 in
-        let w = k.skipped.on in
+        let w = k.on in
         let longer = length-append g.points (p ∷ []) in
         let counts = g.counted in
         record {
@@ -110,21 +88,22 @@ module _ (text : List ℕ) (at n : ℕ) (corners₀ corners : List ℤ) (first :
           means = λ multi done rings.
               g.means multi done rings
               ∙ q.means multi (record { done = done; rings = rings; ring = g.points })
-              ∙ byte_leads text end m k (after_y_mode multi (place_of p)) (record { done = done; rings = rings; ring = g.points }) 44 (want_x_mode multi) (corner_event (place_of p)) (after_rests multi (place_of p)) c (comma multi (place_of p)).0 (comma multi (place_of p)).1 refl
-              ∙ ap (λ o. read_from text (m.at + 1) (want_x_mode multi) (record { done = done; rings = rings; ring = g.points ++ (o ∷ []) })) (point_back p);
+              ∙ k.means (position_item multi (place_of p)) (record { done = done; rings = rings; ring = g.points })
+              ∙ ap (λ o. read_from text next (want_x_mode multi) (record { done = done; rings = rings; ring = g.points ++ (o ∷ []) })) (point_back p);
           held = s ∙ ap (put (2 * (n + count)) (p.x ∷ p.y ∷ [])) g.held
               ∙ ap (λ i. put i (p.x ∷ p.y ∷ []) (put (2 * n) (numbers_of g.points) corners₀)) (let t = numbers_twice g.points in let i : 2 * (n + count) ≡ 2 * n + length (numbers_of g.points) = omega arith in i)
               ∙ sym (put_append (2 * n) (numbers_of g.points) (p.x ∷ p.y ∷ []) corners₀)
               ∙ ap (λ xs. put (2 * n) xs corners₀) (sym (numbers_append g.points (p ∷ [])));
           on = omega arith;
-          inside = omega arith;
+          inside = k.inside;
         }
 
-    pub ring_whole : (e e' : Extent) (lengths lengths' : List ℕ) → n ≡ e.corners → m.byte ≡ Some 41 → m.at < length text → Counted e at → e' ≡ with_ring e count (closes first p) → lengths' ≡ set lengths e.rings count → RingThere text at want_x_mode e corners₀ corners lengths lengths' e' (m.at + 1)
-    ring_whole e e' lengths lengths' same c h few made stored =
+    pub ring_whole : (next : ℕ) → MarkThere text end Bracket next → (e e' : Extent) (lengths lengths' : List ℕ) → n ≡ e.corners → Counted e at → e' ≡ with_ring e count (closes first p) → lengths' ≡ set lengths e.rings count → RingThere text at want_x_mode e corners₀ corners lengths lengths' e' next
+    unfolding next_mode event_of
+    ring_whole next k e e' lengths lengths' same few made stored =
         let o = g.on in
         let l = q.ends.0 in
-        let w = k.skipped.on in
+        let w = k.on in
         let dropped : drop_last (g.points ++ (p ∷ [])) ≡ g.points = drop_last_lem g.points p in
         let counts : count ≡ length (drop_last (g.points ++ (p ∷ []))) = g.counted ∙ ap length (sym dropped) in
         let is : e' ≡ with_ring e (length (drop_last (g.points ++ (p ∷ [])))) (is_closed (g.points ++ (p ∷ []))) = made ∙ ap₂ (with_ring e) counts (closed_so first p g.points g.begins) in
@@ -136,13 +115,13 @@ module _ (text : List ℕ) (at n : ℕ) (corners₀ corners : List ℤ) (first :
           means = λ multi done rings.
               g.means multi done rings
               ∙ q.means multi (record { done = done; rings = rings; ring = g.points })
-              ∙ byte_leads text end m k (after_y_mode multi (place_of p)) (record { done = done; rings = rings; ring = g.points }) 41 (after_ring_mode multi) (ring_ends_event (place_of p)) (after_rests multi (place_of p)) c (bracket multi (place_of p)).0 (bracket multi (place_of p)).1 refl
-              ∙ ap (λ o. read_from text (m.at + 1) (after_ring_mode multi) (so_far_of done (rings ++ ((g.points ++ (o ∷ [])) ∷ [])))) (point_back p);
+              ∙ k.means (position_item multi (place_of p)) (record { done = done; rings = rings; ring = g.points })
+              ∙ ap (λ o. read_from text next (after_ring_mode multi) (so_far_of done (rings ++ ((g.points ++ (o ∷ [])) ∷ [])))) (point_back p);
           counted = is;
           corners_put = g.held ∙ ap₂ (λ i ring. put (2 * i) (numbers_of ring) corners₀) same (sym dropped);
           lengths_put = stored ∙ ap (set lengths e.rings) counts;
           on = omega arith;
-          inside = omega arith;
+          inside = k.inside;
           few = record {
             corners = let x = ap (λ z. z.corners) made in omega arith;
             rings = let x = ap (λ z. z.rings) made in omega arith;

@@ -9,7 +9,7 @@ use lib.IntN.{ℤ}
 use lib.ListN.{length, get_or}
 use borrow.Author.Tests.{ne_eqb}
 use Rattle.grammar.specs.declared.NextByte.{NextByte}
-use Rattle.grammar.specs.Modes.{Mode, start_mode, broken_mode, word_mode, spaced_mode, empty_text_mode, want_ring_mode, want_member_mode, finished_mode, nothing_event, word_of, opening, after_word, next_mode, event_of}
+use Rattle.grammar.specs.Modes.{Mode, start_mode, broken_mode, word_mode, spaced_mode, empty_text_mode, finished_mode, nothing_event, word_of, opening, after_word, next_mode, event_of}
 use Rattle.grammar.specs.Spellings.{spells, breaks}
 use Rattle.grammar.specs.Scans.{SoFar, is_broken, may_end, read_from}
 use Rattle.grammar.specs.Tokens.{Resting, NextRead}
@@ -17,8 +17,8 @@ use Rattle.grammar.proofs.Steps.{leads, leaves, stops_early, stops_whole, space_
 use Rattle.scanner.specs.declared.Extent.{Extent}
 use Rattle.std.specs.Prelude.{Some, Result, Ok, Err}
 use Rattle.grammar.specs.declared.OffGrammar.{OffGrammar}
-use Rattle.scanner.specs.Extents.{no_extent, Counted}
-use Rattle.scanner.specs.Scanned.{so_far_of, WordRead, PolygonThere, AllThere, TextThere, TextScanned, EmptyScanned, Ended}
+use Rattle.scanner.specs.Extents.{no_extent}
+use Rattle.scanner.specs.Scanned.{so_far_of, WordRead, FirstWordRead, bracketed, AllThere, TextThere, TextScanned, EmptyScanned, WithoutBrackets, Ended}
 use Rattle.scanner.proofs.WordScans.{polygon_spelt, multipolygon_spelt, text_spelt, word_off, word_whole, word_inside, text_goes_on}
 use Rattle.scanner.proofs.MemberScans.{adds_none}
 
@@ -46,13 +46,6 @@ module _ (text : List ℕ) (at : ℕ) (mode : Mode) (c c' : List ℤ) (l l' n n'
 
   pub all_cut : (off : OffGrammar) → Ended text end (Err off) → read_from text at mode (so_far_of [] []) ≡ breaks off.place
   all_cut off h = g.means ∙ h (so_far_of g.polygons [])
-
--- a polygon as the whole text
-pub polygon_all : (text : List ℕ) (at : ℕ) (c c' : List ℤ) (l l' n n' : List ℕ) (e : Extent) (end : ℕ) → PolygonThere text at no_extent c c' l l' n n' e end → AllThere text at (want_ring_mode false) c c' l l' n n' e end
-polygon_all text at c c' l l' n n' e end g = record { polygons = g.rings ∷ []; means = g.means false []; adds = g.adds; inside = g.inside }
-
-pub none_counted : (at : ℕ) → Counted no_extent at
-none_counted at = record { corners = omega arith; rings = omega arith; polygons = omega arith }
 
 -- another mode before it
 pub before : (text : List ℕ) (at : ℕ) (mode : Mode) (first : ℕ) (other : Mode) (c c' : List ℤ) (l l' n n' : List ℕ) (r : Result Extent OffGrammar) → read_from text first other (so_far_of [] []) ≡ read_from text at mode (so_far_of [] []) → TextScanned text at mode c c' l l' n n' r → TextScanned text first other c c' l l' n n' r
@@ -104,11 +97,6 @@ spaced_other multi b s e o = rw (ne_eqb b 32 s, ne_eqb b 69 e, ne_eqb b 40 o) re
 after_other : (multi : Bool) (b : ℕ) → (b ≡ 32 → ⊥) → (b ≡ 40 → ⊥) → after_word multi b ≡ broken_mode
 after_other multi b s o = rw (ne_eqb b 32 s, ne_eqb b 40 o) refl
 
--- what is wanted behind the bracket
-abbrev pub bracketed : Bool → Mode
-bracketed true = want_member_mode
-bracketed false = want_ring_mode false
-
 opens : (multi : Bool) → (opening multi 40 ≡ bracketed multi) × (is_broken (bracketed multi) ≡ false)
 opens true = (refl, refl)
 opens false = (refl, refl)
@@ -135,7 +123,7 @@ module _ (text : List ℕ) (at : ℕ) (multi : Bool) (e : at ≡ length (word_of
   same_place : (at < m.at → ⊥) → m.at ≡ at
   same_place h = let o = k.skipped.on in omega arith
 
-  pub bracket_opens : m.byte ≡ Some 40 → read_from text at (word_mode multi at) f ≡ read_from text (m.at + 1) (bracketed multi) f
+  bracket_opens : m.byte ≡ Some 40 → read_from text at (word_mode multi at) f ≡ read_from text (m.at + 1) (bracketed multi) f
   bracket_opens o = go (dec_lt at m.at)
     where
       inside : m.at < length text
@@ -181,38 +169,40 @@ start_other : (b : ℕ) → (b ≡ 80 → ⊥) → (b ≡ 77 → ⊥) → next_m
 unfolding next_mode
 start_other b p m = rw (ne_eqb b 80 p, ne_eqb b 77 m) refl
 
-module _ (text : List ℕ) where
+module _ (text : List ℕ) (f : SoFar) where
   module _ (h : 0 < length text) where
-    pub one_starts : get_or text 0 0 ≡ 80 → read_from text 0 start_mode (so_far_of [] []) ≡ read_from text 1 (word_mode false 1) (so_far_of [] [])
-    one_starts e = leads text 0 start_mode (so_far_of [] []) (word_mode false 1) nothing_event h (ap (next_mode start_mode) e ∙ start_one) (start_silent (get_or text 0 0)) refl
+    one_starts : get_or text 0 0 ≡ 80 → read_from text 0 start_mode f ≡ read_from text 1 (word_mode false 1) f
+    one_starts e = leads text 0 start_mode f (word_mode false 1) nothing_event h (ap (next_mode start_mode) e ∙ start_one) (start_silent (get_or text 0 0)) refl
 
-    pub many_starts : get_or text 0 0 ≡ 77 → read_from text 0 start_mode (so_far_of [] []) ≡ read_from text 1 (word_mode true 1) (so_far_of [] [])
-    many_starts e = leads text 0 start_mode (so_far_of [] []) (word_mode true 1) nothing_event h (ap (next_mode start_mode) e ∙ start_many) (start_silent (get_or text 0 0)) refl
+    many_starts : get_or text 0 0 ≡ 77 → read_from text 0 start_mode f ≡ read_from text 1 (word_mode true 1) f
+    many_starts e = leads text 0 start_mode f (word_mode true 1) nothing_event h (ap (next_mode start_mode) e ∙ start_many) (start_silent (get_or text 0 0)) refl
 
-    pub none_starts : (get_or text 0 0 ≡ 80 → ⊥) → (get_or text 0 0 ≡ 77 → ⊥) → read_from text 0 start_mode (so_far_of [] []) ≡ breaks 0
-    none_starts p m = leaves text 0 start_mode (so_far_of [] []) h (start_other (get_or text 0 0) p m)
+    pub none_starts : (get_or text 0 0 ≡ 80 → ⊥) → (get_or text 0 0 ≡ 77 → ⊥) → read_from text 0 start_mode f ≡ breaks 0
+    none_starts p m = leaves text 0 start_mode f h (start_other (get_or text 0 0) p m)
 
-  pub nothing_starts : length text ≤ 0 → read_from text 0 start_mode (so_far_of [] []) ≡ breaks 0
-  nothing_starts h = stops_early text 0 start_mode (so_far_of [] []) h refl
+  pub nothing_starts : length text ≤ 0 → read_from text 0 start_mode f ≡ breaks 0
+  nothing_starts h = stops_early text 0 start_mode f h refl
 
--- ---- the rest of the first word
+-- ---- the first word, whole or cut
 
-pub one_cut : (text : List ℕ) (off : OffGrammar) → WordRead text 1 (79 ∷ 76 ∷ 89 ∷ 71 ∷ 79 ∷ 78 ∷ []) (Err off) → read_from text 1 (word_mode false 1) (so_far_of [] []) ≡ breaks off.place
-one_cut text off w = word_off text 1 _ _ polygon_spelt off w (so_far_of [] [])
+module _ (text : List ℕ) (h : 0 < length text) where
+  pub one_cut : get_or text 0 0 ≡ 80 → (off : OffGrammar) → WordRead text 1 (79 ∷ 76 ∷ 89 ∷ 71 ∷ 79 ∷ 78 ∷ []) (Err off) → FirstWordRead text (Err off)
+  one_cut b off w f = one_starts text f h b ∙ word_off text 1 _ _ polygon_spelt off w f
 
-pub many_cut : (text : List ℕ) (off : OffGrammar) → WordRead text 1 (85 ∷ 76 ∷ 84 ∷ 73 ∷ 80 ∷ 79 ∷ 76 ∷ 89 ∷ 71 ∷ 79 ∷ 78 ∷ []) (Err off) → read_from text 1 (word_mode true 1) (so_far_of [] []) ≡ breaks off.place
-many_cut text off w = word_off text 1 _ _ multipolygon_spelt off w (so_far_of [] [])
+  pub many_cut : get_or text 0 0 ≡ 77 → (off : OffGrammar) → WordRead text 1 (85 ∷ 76 ∷ 84 ∷ 73 ∷ 80 ∷ 79 ∷ 76 ∷ 89 ∷ 71 ∷ 79 ∷ 78 ∷ []) (Err off) → FirstWordRead text (Err off)
+  many_cut b off w f = many_starts text f h b ∙ word_off text 1 _ _ multipolygon_spelt off w f
 
-module _ (text : List ℕ) (at : ℕ) (w : WordRead text 1 (79 ∷ 76 ∷ 89 ∷ 71 ∷ 79 ∷ 78 ∷ []) (Ok at)) where
-  pub one_word : read_from text 1 (word_mode false 1) (so_far_of [] []) ≡ read_from text at (word_mode false at) (so_far_of [] [])
-  one_word = word_whole text 1 _ _ polygon_spelt at w (so_far_of [] []) ∙ ap (λ k. read_from text at (word_mode false k) (so_far_of [] [])) (sym w.0)
+  pub one_word : get_or text 0 0 ≡ 80 → (at : ℕ) → WordRead text 1 (79 ∷ 76 ∷ 89 ∷ 71 ∷ 79 ∷ 78 ∷ []) (Ok at) → FirstWordRead text (Ok (false, at))
+  one_word b at w = (w.0, word_inside text 1 _ _ polygon_spelt at w (omega arith), λ f. one_starts text f h b ∙ word_whole text 1 _ _ polygon_spelt at w f ∙ ap (λ k. read_from text at (word_mode false k) f) (sym w.0))
 
-  pub one_inside : at ≤ length text
-  one_inside = word_inside text 1 _ _ polygon_spelt at w (omega arith)
+  pub many_word : get_or text 0 0 ≡ 77 → (at : ℕ) → WordRead text 1 (85 ∷ 76 ∷ 84 ∷ 73 ∷ 80 ∷ 79 ∷ 76 ∷ 89 ∷ 71 ∷ 79 ∷ 78 ∷ []) (Ok at) → FirstWordRead text (Ok (true, at))
+  many_word b at w = (w.0, word_inside text 1 _ _ multipolygon_spelt at w (omega arith), λ f. many_starts text f h b ∙ word_whole text 1 _ _ multipolygon_spelt at w f ∙ ap (λ k. read_from text at (word_mode true k) f) (sym w.0))
 
-module _ (text : List ℕ) (at : ℕ) (w : WordRead text 1 (85 ∷ 76 ∷ 84 ∷ 73 ∷ 80 ∷ 79 ∷ 76 ∷ 89 ∷ 71 ∷ 79 ∷ 78 ∷ []) (Ok at)) where
-  pub many_word : read_from text 1 (word_mode true 1) (so_far_of [] []) ≡ read_from text at (word_mode true at) (so_far_of [] [])
-  many_word = word_whole text 1 _ _ multipolygon_spelt at w (so_far_of [] []) ∙ ap (λ k. read_from text at (word_mode true k) (so_far_of [] [])) (sym w.0)
+-- ---- what is behind it
 
-  pub many_inside : at ≤ length text
-  many_inside = word_inside text 1 _ _ multipolygon_spelt at w (omega arith)
+module _ (text : List ℕ) (multi : Bool) (at : ℕ) (w : FirstWordRead text (Ok (multi, at))) where
+  pub word_alone : (c : List ℤ) (l n : List ℕ) (r : Result Extent OffGrammar) → WithoutBrackets text at r → TextScanned text 0 start_mode c c l l n n r
+  word_alone c l n r g = before text at (word_mode multi at) 0 start_mode c c l l n n r (w.2 (so_far_of [] [])) (g multi w.0 c l n)
+
+  pub behind_bracket : (m : NextByte) → NextRead text at m → m.byte ≡ Some 40 → (c c' : List ℤ) (l l' n n' : List ℕ) (r : Result Extent OffGrammar) → TextScanned text (m.at + 1) (bracketed multi) c c' l l' n n' r → TextScanned text 0 start_mode c c' l l' n n' r
+  behind_bracket m k b c c' l l' n n' r g = before text (m.at + 1) (bracketed multi) 0 start_mode c c' l l' n n' r (w.2 (so_far_of [] []) ∙ bracket_opens text at multi w.0 m k (so_far_of [] []) b) g

@@ -34,16 +34,6 @@ byte_found text at b e = go (dec_lt at (length text))
 
 -- ---- the loop over a word
 
-pub none_matched : (text : List ℕ) (at : ℕ) (word : List ℕ) → (j : ℕ) → j < 0 → byte_at text (at + j) ≡ Some (get_or word j 0)
-none_matched text at word j h = absurd (omega arith)
-
-pub one_matched : (text : List ℕ) (at : ℕ) (word : List ℕ) (n : ℕ) → ((j : ℕ) → j < n → byte_at text (at + j) ≡ Some (get_or word j 0)) → byte_at text (at + n) ≡ Some (get_or word n 0) → (j : ℕ) → j < n + 1 → byte_at text (at + j) ≡ Some (get_or word j 0)
-one_matched text at word n u e j h = go (dec_lt j n)
-  where
-    go : Dec (j < n) → byte_at text (at + j) ≡ Some (get_or word j 0)
-    go (yes k) = u j k
-    go (no k) = let same : j ≡ n = omega arith in ap (λ i. byte_at text (at + i)) same ∙ e ∙ ap (λ i. Some (get_or word i 0)) (sym same)
-
 -- ---- a word's modes: so many of its bytes are read
 
 pub record Spelt (mode : ℕ → Mode) (word : List ℕ) : Type 0 where

@@ -1,3 +1,4 @@
 pub mod Puts
 pub mod Extents
+pub mod Marks
 pub mod Scanned

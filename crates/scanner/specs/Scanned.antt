@@ -5,7 +5,7 @@ use Rattle.geom.specs.declared.Point.{Point}
 use Rattle.grammar.specs.declared.OffGrammar.{OffGrammar}
 use Rattle.grammar.specs.Grammar.{Ring, Polygon}
 use Rattle.grammar.specs.Tokens.{Read, byte_at}
-use Rattle.grammar.specs.Modes.{Mode, word_mode, want_member_mode, want_ring_mode, want_x_mode, after_y_mode, after_ring_mode, after_member_mode, finished_mode, word_of}
+use Rattle.grammar.specs.Modes.{Mode, start_mode, word_mode, want_member_mode, want_ring_mode, want_x_mode, after_y_mode, after_ring_mode, after_member_mode, finished_mode, word_of}
 use Rattle.grammar.specs.Spellings.{Spelling, spells, breaks}
 use Rattle.grammar.specs.Scans.{SoFar, place_of, read_from}
 use Rattle.grammar.specs.Texts.{drop_last}
@@ -101,6 +101,11 @@ abbrev pub MemberScanned : List ℕ → ℕ → Extent → List ℤ → List ℤ
 MemberScanned text at e corners corners' lengths lengths' counts counts' (Ok (e', end)) = MemberThere text at e corners corners' lengths lengths' counts counts' e' end
 MemberScanned text at e corners corners' lengths lengths' counts counts' (Err off) = (done : List Polygon) → read_from text at want_member_mode (so_far_of done []) ≡ breaks off.place
 
+-- what is wanted behind the bracket that follows the first word
+abbrev pub bracketed : Bool → Mode
+bracketed true = want_member_mode
+bracketed false = want_ring_mode false
+
 -- from this mode on to the end of what is in brackets
 pub record AllThere (text : List ℕ) (at : ℕ) (mode : Mode) (corners corners' : List ℤ) (lengths lengths' counts counts' : List ℕ) (e' : Extent) (end : ℕ) : Type 0 where
   pub polygons : List Polygon
@@ -113,6 +118,11 @@ AllScanned text at mode corners corners' lengths lengths' counts counts' (Ok (e'
 AllScanned text at mode corners corners' lengths lengths' counts counts' (Err off) = read_from text at mode (so_far_of [] []) ≡ breaks off.place
 
 -- ---- a text
+
+-- whether the first word is MULTIPOLYGON, or POLYGON, and the place behind it
+abbrev pub FirstWordRead : List ℕ → Read Bool → Type 0
+FirstWordRead text (Ok (multi, at)) = (at ≡ length (word_of multi)) × (at ≤ length text) × ((f : SoFar) → read_from text 0 start_mode f ≡ read_from text at (word_mode multi at) f)
+FirstWordRead text (Err off) = (f : SoFar) → read_from text 0 start_mode f ≡ breaks off.place
 
 pub record TextThere (text : List ℕ) (at : ℕ) (mode : Mode) (corners corners' : List ℤ) (lengths lengths' counts counts' : List ℕ) (e' : Extent) : Type 0 where
   pub polygons : List Polygon

@@ -1,6 +1,7 @@
 // A text of Well-Known Text scanned (document 02, R-1): what it spells, counted, and stored as far as tables reach.
 #![tactic(auto)]
 
+pub mod marks;
 pub mod members;
 pub mod polygons;
 pub mod positions;

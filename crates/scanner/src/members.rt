@@ -4,6 +4,7 @@ ghost use Rattle.grammar.specs.Modes.{want_member_mode};
 ghost use Rattle.scanner.specs.Extents.{Counted};
 ghost use Rattle.scanner.specs.Scanned.{MemberScanned, AllScanned};
 
+use crate::marks::{Mark, mark_behind};
 use crate::polygons::polygon;
 use crate::words::word;
 use crate::{Extent, NO_EXTENT};
@@ -42,17 +43,15 @@ pub(crate) fn members(
 {
     let mut so_far = NO_EXTENT;
     let mut place = at;
-    while place < text.len() {
+    loop {
         let (more, end) = member(text, place, corners, lengths, counts, so_far)?;
-        let next = next_byte(text, end);
-        match next.byte {
-            Some(b',') => {
+        let (mark, next) = mark_behind(text, end)?;
+        match mark {
+            Mark::Comma => {
                 so_far = more;
-                place = next.at + 1;
+                place = next;
             }
-            Some(b')') => return Ok((more, next.at + 1)),
-            _ => return Err(OffGrammar { place: next.at }),
+            Mark::Bracket => return Ok((more, next)),
         }
     }
-    Err(OffGrammar { place })
 }

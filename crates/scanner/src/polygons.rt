@@ -4,9 +4,10 @@ ghost use Rattle.scanner.specs.Extents.{with_polygon, Counted};
 ghost use Rattle.scanner.specs.Scanned.{PolygonScanned};
 
 use crate::Extent;
+use crate::marks::{Mark, mark_behind};
 use crate::rings::ring_at;
 use crate::tables::store;
-use grammar::{OffGrammar, Read, next_byte};
+use grammar::Read;
 
 // The plan with a polygon more.
 fn with_polygon(extent: Extent) -> Extent
@@ -33,20 +34,18 @@ pub(crate) fn polygon(
 {
     let mut so_far = extent;
     let mut place = at;
-    while place < text.len() {
+    loop {
         let (more, end) = ring_at(text, place, corners, lengths, so_far)?;
-        let next = next_byte(text, end);
-        match next.byte {
-            Some(b',') => {
+        let (mark, next) = mark_behind(text, end)?;
+        match mark {
+            Mark::Comma => {
                 so_far = more;
-                place = next.at + 1;
+                place = next;
             }
-            Some(b')') => {
+            Mark::Bracket => {
                 store(counts, extent.polygons, more.rings - extent.rings);
-                return Ok((with_polygon(more), next.at + 1));
+                return Ok((with_polygon(more), next));
             }
-            _ => return Err(OffGrammar { place: next.at }),
         }
     }
-    Err(OffGrammar { place })
 }

@@ -5,6 +5,7 @@ ghost use Rattle.scanner.specs.Extents.{closes, with_ring, Counted};
 ghost use Rattle.scanner.specs.Scanned.{RingScanned};
 
 use crate::Extent;
+use crate::marks::{Mark, mark_behind};
 use crate::positions::read_position;
 use crate::tables::{store, store_corner};
 use geom::Point;
@@ -42,24 +43,21 @@ fn ring(
     ensures { RingScanned text.now at want_x_mode extent corners.old corners.new lengths.old lengths.new result }
 {
     let mut first = None;
-    let mut count = 0;
     let mut place = at;
-    while place < text.len() {
+    // Each position takes a byte at least.
+    for count in 0..text.len() {
         let (p, end) = read_position(text, place)?;
-        let next = next_byte(text, end);
-        match next.byte {
-            Some(b',') => {
+        let (mark, next) = mark_behind(text, end)?;
+        match mark {
+            Mark::Comma => {
                 store_corner(corners, extent.corners + count, p);
-                first = Some(first.unwrap_or(p));
-                count += 1;
-                place = next.at + 1;
+                first = first.or(Some(p));
+                place = next;
             }
-            Some(b')') => {
+            Mark::Bracket => {
                 store(lengths, extent.rings, count);
-                let ring = with_ring(extent, count, closes(first, p));
-                return Ok((ring, next.at + 1));
+                return Ok((with_ring(extent, count, closes(first, p)), next));
             }
-            _ => return Err(OffGrammar { place: next.at }),
         }
     }
     Err(OffGrammar { place })
@@ -76,6 +74,7 @@ pub(crate) fn ring_at(
     requires { (length text.now ≤ 65536) × (at ≤ length text.now) × Counted extent at }
     ensures { RingScanned text.now at want_ring_mode extent corners.old corners.new lengths.old lengths.new result }
 {
+    // Nowhere else is one byte wanted and 21 the answer to every other: `scan` goes on to EMPTY, and `to_end` wants none.
     let open = next_byte(text, at);
     if open.byte != Some(b'(') {
         return Err(OffGrammar { place: open.at });

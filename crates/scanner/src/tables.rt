@@ -13,7 +13,8 @@ pub(crate) fn store<T: Copy>(table: &mut [T], k: usize, value: T)
     }
 }
 
-/// Stores corner n in a coordinate table, as far as it reaches.
+/// Stores corner n in a coordinate table, as far as it reaches. `plans::put_corner` writes both numbers of a corner that the table holds; here
+/// a table may end before either.
 pub(crate) fn store_corner(table: &mut [i64], n: usize, p: Point)
     requires { n ≤ 65536 }
     ensures { table.new ≡ put (2 * n) (p.x ∷ p.y ∷ []) table.old }

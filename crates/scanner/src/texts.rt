@@ -1,14 +1,14 @@
 // A whole text: its first word, and what stands behind it.
-ghost use Rattle.std.specs.Prelude.{◌≡◌, true, false, ◌≤◌, length, Some};
-ghost use Rattle.grammar.specs.Modes.{start_mode, word_mode, empty_text_mode};
+ghost use Rattle.std.specs.Prelude.{◌≡◌, ◌≤◌, length, Some};
+ghost use Rattle.grammar.specs.Modes.{start_mode, empty_text_mode};
 ghost use Rattle.grammar.specs.Tokens.{NextRead};
-ghost use Rattle.scanner.specs.Scanned.{TextScanned, EmptyScanned, WithoutBrackets, Ended};
+ghost use Rattle.scanner.specs.Scanned.{FirstWordRead, bracketed, AllScanned, TextScanned, EmptyScanned, WithoutBrackets, Ended};
 
 use crate::members::members;
 use crate::polygons::polygon;
 use crate::words::word;
 use crate::{Extent, NO_EXTENT};
-use grammar::{NextByte, OffGrammar, next_byte};
+use grammar::{NextByte, OffGrammar, Read, next_byte};
 
 // Behind the last bracket of a text: spaces alone may stand there.
 fn to_end(text: &[u8], end: usize) -> Result<(), OffGrammar>
@@ -45,44 +45,33 @@ fn without_brackets(text: &[u8], at: usize, next: NextByte) -> Result<Extent, Of
     empty_text(text, next.at + 1)
 }
 
-// A POLYGON from behind its P on.
-fn polygon_text(
-    text: &[u8],
-    corners: &mut [i64],
-    lengths: &mut [usize],
-    counts: &mut [usize],
-) -> Result<Extent, OffGrammar>
-    requires { length text.now ≤ 65536 }
-    ensures { TextScanned text.now 1 (word_mode false 1) corners.old corners.new lengths.old lengths.new counts.old counts.new result }
+// Whether the first word of a text is MULTIPOLYGON, or POLYGON, and the place behind it.
+fn first_word(text: &[u8]) -> Read<bool>
+    ensures { FirstWordRead text.now result }
 {
-    let at = word(text, 1, b"OLYGON")?;
-    let next = next_byte(text, at);
-    if next.byte != Some(b'(') {
-        return without_brackets(text, at, next);
+    match text.first() {
+        Some(b'P') => Ok((false, word(text, 1, b"OLYGON")?)),
+        Some(b'M') => Ok((true, word(text, 1, b"ULTIPOLYGON")?)),
+        _ => Err(OffGrammar { place: 0 }),
     }
-    let (extent, end) = polygon(text, next.at + 1, corners, lengths, counts, NO_EXTENT)?;
-    to_end(text, end)?;
-    Ok(extent)
 }
 
-// A MULTIPOLYGON from behind its M on.
-fn multipolygon_text(
+// What is in brackets behind the first word: the members of a MULTIPOLYGON, or the rings of a POLYGON.
+fn in_brackets(
+    multi: bool,
     text: &[u8],
+    at: usize,
     corners: &mut [i64],
     lengths: &mut [usize],
     counts: &mut [usize],
-) -> Result<Extent, OffGrammar>
-    requires { length text.now ≤ 65536 }
-    ensures { TextScanned text.now 1 (word_mode true 1) corners.old corners.new lengths.old lengths.new counts.old counts.new result }
+) -> Read<Extent>
+    requires { (length text.now ≤ 65536) × (at ≤ length text.now) }
+    ensures { AllScanned text.now at (bracketed multi) corners.old corners.new lengths.old lengths.new counts.old counts.new result }
 {
-    let at = word(text, 1, b"ULTIPOLYGON")?;
-    let next = next_byte(text, at);
-    if next.byte != Some(b'(') {
-        return without_brackets(text, at, next);
+    if multi {
+        return members(text, at, corners, lengths, counts);
     }
-    let (extent, end) = members(text, next.at + 1, corners, lengths, counts)?;
-    to_end(text, end)?;
-    Ok(extent)
+    polygon(text, at, corners, lengths, counts, NO_EXTENT)
 }
 
 /// What a text spells: how much of a plan, which is stored as far as the tables reach, or where it leaves the grammar. Off the grammar, what the
@@ -96,9 +85,12 @@ pub fn scan(
     requires { length text.now ≤ 65536 }
     ensures { TextScanned text.now 0 start_mode corners.old corners.new lengths.old lengths.new counts.old counts.new result }
 {
-    match text.first() {
-        Some(b'P') => polygon_text(text, corners, lengths, counts),
-        Some(b'M') => multipolygon_text(text, corners, lengths, counts),
-        _ => Err(OffGrammar { place: 0 }),
+    let (multi, at) = first_word(text)?;
+    let next = next_byte(text, at);
+    if next.byte != Some(b'(') {
+        return without_brackets(text, at, next);
     }
+    let (extent, end) = in_brackets(multi, text, next.at + 1, corners, lengths, counts)?;
+    to_end(text, end)?;
+    Ok(extent)
 }

@@ -9,6 +9,7 @@ pub(crate) fn word(text: &[u8], at: usize, word: &[u8]) -> Result<usize, OffGram
     requires { (at ≤ 65536) × (length word.now ≤ 12) }
     ensures { WordRead text.now at word.now result }
 {
+    // No `zip` and `position`: the pairs end with the text, and the place of a text that ends early is asked too.
     for (n, &byte) in word.iter().enumerate() {
         let place = at + n;
         if text.get(place).copied() != Some(byte) {

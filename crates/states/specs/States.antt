@@ -1,20 +1,11 @@
--- Kinds and states as 64-bit numbers at the C boundary (document 01, item 11; a kind or mark other than 0 or 1 gets 15).
+-- States as 64-bit numbers at the C boundary (document 01, item 11; a kind or mark other than 0 or 1 gets 15).
 use Rattle.std.specs.Prelude.{◌≡◌, Bool, true, false, cond, ℕ, eqb, ℤ, Err, None, Option, Some}
 use Rattle.rules.specs.declared.Kind.{Kind}
-use Rattle.rules.specs.declared.Kind.TheVariants.{Polygons, Tree}
 use Rattle.rules.specs.declared.Refusal.TheVariants.{Unsound}
 use Rattle.rules.specs.declared.State.{State}
-use Rattle.rules.specs.Numbers.{reply_number}
+use Rattle.rules.specs.Numbers.{kind_named, kind_number, reply_number}
 use Rattle.states.specs.declared.StateNumbers.{StateNumbers}
 use Rattle.rules.specs.Answering.{Reply}
-
--- 0 names a list, 1 a tree
-abbrev pub kind_named : ℕ → Option Kind
-kind_named number = cond (eqb number 0) (Some Polygons) (cond (eqb number 1) (Some Tree) None)
-
-abbrev pub kind_number : Kind → ℕ
-kind_number Polygons = 0
-kind_number Tree = 1
 
 abbrev pub mark_number : Bool → ℕ
 mark_number mark = cond mark 1 0

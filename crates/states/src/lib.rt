@@ -1,14 +1,15 @@
-// Kinds and states as 64-bit numbers, as they cross the C boundary.
+// States as 64-bit numbers, as they cross the C boundary.
 #![tactic(auto)]
 
 ghost use Rattle.std.specs.Prelude.{◌≡◌};
-ghost use Rattle.states.specs.States.{kind_named, kind_number, mark_named, state_named, state_numbers};
+ghost use Rattle.std.specs.Result.{result_ok};
+ghost use Rattle.states.specs.States.{state_named, state_numbers};
 
-use rules::{Kind, State};
+use rules::{Kind, State, Unsound};
 
 /// The state of a prepared plan: kind 0 a list, 1 a tree; out of range 0 or 1; counts of corners, rings and polygons; the undo depth.
 #[repr(C)]
-#[derive(Clone, Copy)]
+#[derive(Clone, Copy, Default)]
 pub struct StateNumbers {
     pub kind: usize,
     pub out_of_range: usize,
@@ -18,59 +19,42 @@ pub struct StateNumbers {
     pub undo_depth: usize,
 }
 
-/// 0 names a list, 1 a tree, and no other number a kind.
-pub fn kind_of(number: usize) -> Option<Kind>
-    ensures { result ≡ kind_named number }
-{
-    match number {
-        0 => Some(Kind::Polygons),
-        1 => Some(Kind::Tree),
-        _ => None,
+// The state that numbers name. Refused with 15 where the kind or the mark is another number than 0 and 1.
+impl TryFrom<StateNumbers> for State {
+    type Error = Unsound;
+
+    ghost try_from_gives = { λ numbers state. result_ok state ≡ state_named numbers };
+
+    fn try_from(numbers: StateNumbers) -> Result<State, Unsound> {
+        let kind = Kind::try_from(numbers.kind)?;
+        let out_of_range = match numbers.out_of_range {
+            0 => false,
+            1 => true,
+            _ => return Err(Unsound),
+        };
+        Ok(State {
+            kind,
+            out_of_range,
+            corners: numbers.corners,
+            rings: numbers.rings,
+            polygons: numbers.polygons,
+            undo_depth: numbers.undo_depth,
+        })
     }
 }
 
-// 0 names a plan in range, 1 one that is out of range, and no other number either.
-fn mark_of(number: usize) -> Option<bool>
-    ensures { result ≡ mark_named number }
-{
-    match number {
-        0 => Some(false),
-        1 => Some(true),
-        _ => None,
-    }
-}
+// The numbers of a state.
+impl From<State> for StateNumbers {
+    ghost from_gives = { λ state numbers. numbers ≡ state_numbers state };
 
-/// The state that numbers name: none where the kind or the mark is another number than 0 and 1.
-pub fn state_of(numbers: StateNumbers) -> Option<State>
-    ensures { result ≡ state_named numbers }
-{
-    Some(State {
-        kind: kind_of(numbers.kind)?,
-        out_of_range: mark_of(numbers.out_of_range)?,
-        corners: numbers.corners,
-        rings: numbers.rings,
-        polygons: numbers.polygons,
-        undo_depth: numbers.undo_depth,
-    })
-}
-
-/// 0 for a list, 1 for a tree.
-pub fn kind_number(kind: Kind) -> usize
-    ensures { result ≡ kind_number kind }
-{
-    kind as usize
-}
-
-/// The numbers of a state.
-pub fn numbers_of(state: State) -> StateNumbers
-    ensures { result ≡ state_numbers state }
-{
-    StateNumbers {
-        kind: kind_number(state.kind),
-        out_of_range: usize::from(state.out_of_range),
-        corners: state.corners,
-        rings: state.rings,
-        polygons: state.polygons,
-        undo_depth: state.undo_depth,
+    fn from(state: State) -> StateNumbers {
+        StateNumbers {
+            kind: usize::from(state.kind),
+            out_of_range: usize::from(state.out_of_range),
+            corners: state.corners,
+            rings: state.rings,
+            polygons: state.polygons,
+            undo_depth: state.undo_depth,
+        }
     }
 }

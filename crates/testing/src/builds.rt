@@ -6,6 +6,7 @@ use cut::keys::{Axis, pack};
 use cut::selection::select;
 use index::build::build;
 use index::count::node_count;
+use plans::{MAX_CORNERS, all_in_range};
 
 /// How many nodes a build made, and how often it read a key.
 #[repr(C)]
@@ -19,23 +20,13 @@ pub struct BuildNumbers {
 fn is_buildable(corners: &[i64], boxes: usize, parts: usize, edges: usize, n: usize) -> bool
     ensures { Whether (RingBuildable n corners.now boxes parts edges) result }
 {
-    if 1048576 < n {
-        return false;
-    }
-    if corners.len() / 2 < n {
-        return false;
-    }
-    if edges < n {
-        return false;
-    }
     let nodes = node_count(n);
-    if boxes < nodes {
-        return false;
-    }
-    if parts < nodes {
-        return false;
-    }
-    plans::all_in_range(corners)
+    n <= MAX_CORNERS
+        && n <= corners.len() / 2
+        && n <= edges
+        && nodes <= boxes
+        && nodes <= parts
+        && all_in_range(corners)
 }
 
 /// Builds the index over one ring of n corners, and puts the packed keys of cuts along x in the place of the edge numbers. No nodes and no
@@ -68,16 +59,8 @@ pub extern "C" fn testing_build_packed(
 pub extern "C" fn testing_select(values: &mut [usize], first: usize, size: usize) -> usize
     ensures { Selects first size values.old values.new result }
 {
-    if size < 1 {
-        return 0;
-    }
-    if 1048576 < size {
-        return 0;
-    }
-    if 1048576 - size < first {
-        return 0;
-    }
-    if values.len() < first + size {
+    let ceiling = MAX_CORNERS.min(values.len());
+    if size == 0 || ceiling < size || ceiling - size < first {
         return 0;
     }
     select(values, first, first + size / 2, first + size)

@@ -78,13 +78,15 @@ pub extern "C" fn testing_pair(a: i64, b: i64) -> Pair
     }
 }
 
-fn words_of(d: SignedWide) -> Words
-    ensures { words_value result ≡ wide_value_of d }
-{
-    Words {
-        borrow: d.borrow,
-        high: d.words.hi,
-        low: d.words.lo,
+impl From<SignedWide> for Words {
+    ghost from_gives = { λ d words. words_value words ≡ wide_value_of d };
+
+    fn from(d: SignedWide) -> Words {
+        Words {
+            borrow: d.borrow,
+            high: d.words.hi,
+            low: d.words.lo,
+        }
     }
 }
 
@@ -93,9 +95,10 @@ fn words_of(d: SignedWide) -> Words
 pub extern "C" fn testing_product(a: i64, b: i64, c: i64, d: i64) -> Words
     ensures { words_value result ≡ (a -ℤ b) *ℤ (c -ℤ d) }
 {
-    words_of(signed_product(difference(a, b), difference(c, d)))
+    Words::from(signed_product(difference(a, b), difference(c, d)))
 }
 
+// -1, 0 or 1. A function, since both types are other crates' and so no `From` may stand here.
 fn sign_number(sign: Sign) -> i64
     ensures { result ≡ sign_number sign }
 {
@@ -136,7 +139,7 @@ pub extern "C" fn testing_turn(ax: i64, ay: i64, bx: i64, by: i64, cx: i64, cy: 
 pub extern "C" fn testing_turn_words(ax: i64, ay: i64, bx: i64, by: i64, cx: i64, cy: i64) -> Words
     ensures { words_value result ≡ orientation (record { x = ax; y = ay }) (record { x = bx; y = by }) (record { x = cx; y = cy }) }
 {
-    words_of(turn_words(ax, ay, bx, by, cx, cy))
+    Words::from(turn_words(ax, ay, bx, by, cx, cy))
 }
 
 /// The exact difference of two sizes of two words each.
@@ -144,7 +147,7 @@ pub extern "C" fn testing_turn_words(ax: i64, ay: i64, bx: i64, by: i64, cx: i64
 pub extern "C" fn testing_subtract(high: u64, low: u64, less_high: u64, less_low: u64) -> Words
     ensures { words_value result ≡ pos (size_of (record { hi = high; lo = low })) -ℤ pos (size_of (record { hi = less_high; lo = less_low })) }
 {
-    words_of(subtract(
+    Words::from(subtract(
         Wide { hi: high, lo: low },
         Wide {
             hi: less_high,

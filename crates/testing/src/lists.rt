@@ -4,19 +4,8 @@ ghost use Rattle.replay.specs.Replays.{Replays, replay_number, Outcome};
 ghost use Rattle.testing.specs.Named.{list_or_tree};
 
 use crate::look_ups::kind_of;
-use replay::{ReplayRefusal, replay};
-use rules::{State, refusal_number};
-
-// 0 where the calls were run, else the refusal number; 11 too where the answer table is too short.
-fn outcome_number(outcome: Result<State, ReplayRefusal>) -> usize
-    ensures { result ≡ replay_number outcome }
-{
-    match outcome {
-        Ok(_) => 0,
-        Err(ReplayRefusal::Plan(refusal)) => refusal_number(refusal),
-        Err(ReplayRefusal::AnswersTooShort) => 11,
-    }
-}
+use plans::Plan;
+use replay::replay;
 
 /// `replay::replay`: 0 where the calls were run, else the refusal number, and nothing lent is written. Kind 0 is a list, any other a tree.
 #[unsafe(no_mangle)]
@@ -37,19 +26,17 @@ pub extern "C" fn testing_replay(
 ) -> usize
     ensures { (outcome : Outcome) × Replays (record { kind = list_or_tree (eqb kind 0); coordinates = coordinates.now; lengths = lengths.now; counts = counts.now }) (record { tables = record { corners = corners.old; rings = rings.old; polygons = polygons.old; boxes = boxes.old; parts = parts.old; edges = edges.old }; undo = undo.old; answers = answers.old }) (record { tables = record { corners = corners.new; rings = rings.new; polygons = polygons.new; boxes = boxes.new; parts = parts.new; edges = edges.new }; undo = undo.new; answers = answers.new }) calls.now outcome × (result ≡ replay_number outcome) }
 {
-    outcome_number(replay(
-        kind_of(kind == 0),
+    let plan = Plan {
+        kind: kind_of(kind == 0),
         coordinates,
         lengths,
         counts,
-        corners,
-        rings,
-        polygons,
-        boxes,
-        parts,
-        edges,
-        undo,
-        calls,
-        answers,
-    ))
+    };
+    let outcome = replay(
+        &plan, corners, rings, polygons, boxes, parts, edges, undo, calls, answers,
+    );
+    match outcome {
+        Ok(_) => 0,
+        Err(refusal) => usize::from(refusal),
+    }
 }

@@ -7,9 +7,9 @@ ghost use Rattle.walk.specs.Steps.{Begun, Says};
 ghost use Rattle.testing.specs.Walks.{cursor_of, cursor_numbers, rect_named, query_named, step_numbers, place_named};
 
 use geom::{Point, Rect};
-use rules::Unsound;
+use rules::{Refusal, Unsound};
 use walk::place::place_of_edge;
-use walk::{Cursor, Query, Step, next, start};
+use walk::{Cursor, LentPlan, Query, Step, next, start};
 
 /// A rectangle as it crosses the C boundary.
 #[repr(C)]
@@ -41,82 +41,74 @@ pub struct StepNumbers {
     pub cursor: CursorNumbers,
 }
 
-fn cursor_of(numbers: CursorNumbers) -> Cursor
-    ensures { result ≡ cursor_of numbers }
-{
-    Cursor {
-        nodes: numbers.nodes,
-        waiting: numbers.waiting,
-        met: numbers.met,
-        at: numbers.at,
-        to: numbers.to,
+impl From<CursorNumbers> for Cursor {
+    ghost from_gives = { λ numbers cursor. cursor ≡ cursor_of numbers };
+
+    fn from(numbers: CursorNumbers) -> Cursor {
+        Cursor {
+            nodes: numbers.nodes,
+            waiting: numbers.waiting,
+            met: numbers.met,
+            at: numbers.at,
+            to: numbers.to,
+        }
     }
 }
 
-fn numbers_of(cursor: Cursor) -> CursorNumbers
-    ensures { result ≡ cursor_numbers cursor }
-{
-    CursorNumbers {
-        nodes: cursor.nodes,
-        waiting: cursor.waiting,
-        met: cursor.met,
-        at: cursor.at,
-        to: cursor.to,
+impl From<Cursor> for CursorNumbers {
+    ghost from_gives = { λ cursor numbers. numbers ≡ cursor_numbers cursor };
+
+    fn from(cursor: Cursor) -> CursorNumbers {
+        CursorNumbers {
+            nodes: cursor.nodes,
+            waiting: cursor.waiting,
+            met: cursor.met,
+            at: cursor.at,
+            to: cursor.to,
+        }
     }
 }
 
-fn rect_of(numbers: RectNumbers) -> Rect
-    ensures { result ≡ rect_named numbers }
-{
-    Rect {
-        min: Point {
-            x: numbers.least_x,
-            y: numbers.least_y,
-        },
-        max: Point {
-            x: numbers.greatest_x,
-            y: numbers.greatest_y,
-        },
+impl From<RectNumbers> for Rect {
+    ghost from_gives = { λ numbers rect. rect ≡ rect_named numbers };
+
+    fn from(numbers: RectNumbers) -> Rect {
+        Rect {
+            min: Point {
+                x: numbers.least_x,
+                y: numbers.least_y,
+            },
+            max: Point {
+                x: numbers.greatest_x,
+                y: numbers.greatest_y,
+            },
+        }
     }
 }
 
-// The boxes that meet the rectangle, or those that hold it.
-fn query_of(meeting: bool, rect: Rect) -> Query
-    ensures { result ≡ query_named meeting rect }
-{
-    if meeting {
-        Query::Meeting(rect)
-    } else {
-        Query::Holding(rect)
+impl StepNumbers {
+    // The numbers of a step from a cursor.
+    fn new(step: Result<Option<Step>, Unsound>, cursor: CursorNumbers) -> StepNumbers
+        ensures { result ≡ step_numbers step cursor }
+    {
+        match step {
+            Ok(Some(step)) => StepNumbers {
+                what: 0,
+                edge: step.edge,
+                cursor: CursorNumbers::from(step.after),
+            },
+            Ok(None) => StepNumbers {
+                what: 1,
+                edge: 0,
+                cursor,
+            },
+            Err(unsound) => StepNumbers {
+                what: usize::from(Refusal::from(unsound)),
+                edge: 0,
+                cursor,
+            },
+        }
     }
-}
-
-fn step_numbers(step: Result<Option<Step>, Unsound>, cursor: CursorNumbers) -> StepNumbers
-    ensures { result ≡ step_numbers step cursor }
-{
-    match step {
-        Ok(Some(step)) => StepNumbers {
-            what: 0,
-            edge: step.edge,
-            cursor: numbers_of(step.after),
-        },
-        Ok(None) => StepNumbers {
-            what: 1,
-            edge: 0,
-            cursor,
-        },
-        Err(_) => StepNumbers {
-            what: 15,
-            edge: 0,
-            cursor,
-        },
-    }
-}
-
-fn place_number(place: Result<usize, Unsound>) -> usize
-    ensures { result ≡ place_named place }
-{
-    place.unwrap_or(usize::MAX)
 }
 
 /// `walk::start`.
@@ -124,7 +116,7 @@ fn place_number(place: Result<usize, Unsound>) -> usize
 pub extern "C" fn testing_start(n: usize) -> CursorNumbers
     ensures { Begun n (cursor_of result) }
 {
-    numbers_of(start(n))
+    CursorNumbers::from(start(n))
 }
 
 /// `walk::next`, for the boxes that meet the rectangle where `holding` is 0, else for those that hold it. The cursor is as it was where no edge
@@ -142,16 +134,24 @@ pub extern "C" fn testing_next(
 ) -> StepNumbers
     ensures { (step : Result (Option Step) Unsound) × Says n boxes.now parts.now edges.now (query_named (eqb holding 0) (rect_named rect)) stack.old (cursor_of cursor) stack.new step × (result ≡ step_numbers step cursor) }
 {
-    let step = next(
-        stack,
+    let rect = Rect::from(rect);
+    let query = if holding == 0 {
+        Query::Meeting(rect)
+    } else {
+        Query::Holding(rect)
+    };
+    // a walk looks at neither corners nor rings
+    let plan = LentPlan {
+        corners: &[],
+        rings: &[],
         boxes,
         parts,
         edges,
         n,
-        query_of(holding == 0, rect_of(rect)),
-        cursor_of(cursor),
-    );
-    step_numbers(step, cursor)
+        count: 0,
+    };
+    let step = next(stack, &plan, query, Cursor::from(cursor));
+    StepNumbers::new(step, cursor)
 }
 
 /// `walk::place::place_of_edge`: the place, or the greatest number where it is refused.
@@ -168,5 +168,14 @@ pub extern "C" fn testing_place_of_edge(
 ) -> usize
     ensures { (place : Result ℕ Unsound) × PlaceSays n count corners.now rings.now boxes.now parts.now edges.now e place × (result ≡ place_named place) }
 {
-    place_number(place_of_edge(corners, rings, boxes, parts, edges, n, count, e))
+    let plan = LentPlan {
+        corners,
+        rings,
+        boxes,
+        parts,
+        edges,
+        n,
+        count,
+    };
+    place_of_edge(&plan, e).unwrap_or(usize::MAX)
 }

@@ -18,7 +18,7 @@ use Rattle.lines.specs.Plans.{last_one_more, grown, after_lines, meaning}
 use Rattle.text.specs.Lines.{LineSpan}
 use Rattle.text.specs.Numbers.{reading_numbers}
 use Rattle.text.specs.Readings.{reading_number, reading_detail, reading, written, PlanRead}
-use Rattle.lines.specs.Records.{one_field, two_fields, three_fields, record_of}
+use Rattle.lines.specs.Records.{one_field, two_fields, point_of, three_fields, record_of}
 use Rattle.lines.specs.Words.{plan, tree, outer, hole, node, at}
 use Rattle.text.proofs.Answers.{too_long}
 use Rattle.text.proofs.Worked.{text, ◌⇥◌}
@@ -51,7 +51,7 @@ corner = text (plan ∷ outer ∷ at ⇥ (48 ∷ []) ⇥ (48 ∷ []) ∷ [])
 
 -- the last line dropped: its corner is in the table, and what stands after it is as it was
 pub last_line_read : (corners' : List ℤ) (lengths' counts' : List ℕ) (r : Result Size Refusal) → PlanRead corner (pos 7 ∷ pos 7 ∷ pos 7 ∷ []) corners' (7 ∷ 7 ∷ []) lengths' (7 ∷ 7 ∷ []) counts' r → (corners' ≡ pos 0 ∷ pos 0 ∷ pos 7 ∷ []) × (lengths' ≡ 1 ∷ 7 ∷ []) × (counts' ≡ 1 ∷ 7 ∷ [])
-unfolding reading meaning after_lines grown last_one_more record_of one_field three_fields split number_of value_of worth decimal digits digits_within
+unfolding reading meaning after_lines grown last_one_more record_of one_field three_fields point_of split number_of value_of worth decimal digits digits_within
 last_line_read corners' lengths' counts' r g =
     let e = g.answer in (
       g.corners_written ∙ ap (λ a. written a (pos 0 ∷ pos 0 ∷ []) (pos 7 ∷ pos 7 ∷ pos 7 ∷ [])) e,
@@ -61,15 +61,15 @@ last_line_read corners' lengths' counts' r g =
 
 -- the first short table is named, corners before rings before polygons
 pub corners_named_first : (corners' : List ℤ) (lengths' counts' : List ℕ) (r : Result Size Refusal) → PlanRead corner (pos 7 ∷ []) corners' [] lengths' [] counts' r → r ≡ Err (TableTooShort Table.Corners)
-unfolding reading meaning after_lines grown last_one_more record_of one_field three_fields split number_of value_of worth decimal digits digits_within
+unfolding reading meaning after_lines grown last_one_more record_of one_field three_fields point_of split number_of value_of worth decimal digits digits_within
 corners_named_first corners' lengths' counts' r g = g.answer
 
 pub rings_named_next : (corners' : List ℤ) (lengths' counts' : List ℕ) (r : Result Size Refusal) → PlanRead corner (pos 7 ∷ pos 7 ∷ []) corners' [] lengths' [] counts' r → r ≡ Err (TableTooShort Table.Rings)
-unfolding reading meaning after_lines grown last_one_more record_of one_field three_fields split number_of value_of worth decimal digits digits_within
+unfolding reading meaning after_lines grown last_one_more record_of one_field three_fields point_of split number_of value_of worth decimal digits digits_within
 rings_named_next corners' lengths' counts' r g = g.answer
 
 pub polygons_named_last : (corners' : List ℤ) (lengths' counts' : List ℕ) (r : Result Size Refusal) → PlanRead corner (pos 7 ∷ pos 7 ∷ []) corners' (7 ∷ []) lengths' [] counts' r → r ≡ Err (TableTooShort Table.Polygons)
-unfolding reading meaning after_lines grown last_one_more record_of one_field three_fields split number_of value_of worth decimal digits digits_within
+unfolding reading meaning after_lines grown last_one_more record_of one_field three_fields point_of split number_of value_of worth decimal digits digits_within
 polygons_named_last corners' lengths' counts' r g = g.answer
 
 pub table_numbered : (corners' : List ℤ) (lengths' counts' : List ℕ) (r : Result Size Refusal) → PlanRead corner (pos 7 ∷ pos 7 ∷ []) corners' (7 ∷ []) lengths' [] counts' r → (reading_number r ≡ 11) × (reading_detail r ≡ 3)

@@ -8,7 +8,7 @@ use Rattle.fields.specs.Pieces.{split}
 use Rattle.rules.specs.declared.Kind.TheVariants.{Polygons, Tree}
 use Rattle.text.specs.Lines.{line_of, start_of, line_start}
 use Rattle.lines.specs.Plans.{gives_meaning, broken_meaning, empty_plan, last_one_more, grown, after_lines, meaning}
-use Rattle.lines.specs.Records.{one_field, two_fields, three_fields, record_of}
+use Rattle.lines.specs.Records.{one_field, two_fields, point_of, three_fields, record_of}
 use Rattle.lines.specs.Words.{plan, list, tree, outer, hole, node, at}
 
 -- lines, each ended by byte 10
@@ -47,7 +47,7 @@ a_tree = refl
 
 -- a polygon of an outer ring with a corner and a hole with two, and a polygon of one empty ring
 rings : meaning (text (plan ∷ outer ∷ at ⇥ zero ⇥ seven ∷ hole ∷ at ⇥ seven ⇥ minus_three ∷ at ⇥ zero ⇥ zero ∷ outer ∷ [])) ≡ gives_meaning (record { kind = Polygons; coordinates = pos 0 ∷ pos 7 ∷ pos 7 ∷ negsuc 2 ∷ pos 0 ∷ pos 0 ∷ []; lengths = 1 ∷ 2 ∷ 0 ∷ []; counts = 2 ∷ 1 ∷ [] })
-unfolding meaning after_lines grown last_one_more record_of one_field three_fields split number_of value_of worth decimal digits digits_within
+unfolding meaning after_lines grown last_one_more record_of one_field three_fields point_of split number_of value_of worth decimal digits digits_within
 rings = refl
 
 -- ---- the first line that breaks a rule
@@ -90,7 +90,7 @@ unfolding meaning after_lines grown record_of one_field split
 hole_first = refl
 
 corner_first : meaning (text (plan ∷ at ⇥ zero ⇥ zero ∷ [])) ≡ broken_meaning 2
-unfolding meaning after_lines grown record_of one_field three_fields split number_of value_of worth decimal digits digits_within
+unfolding meaning after_lines grown record_of one_field three_fields point_of split number_of value_of worth decimal digits digits_within
 corner_first = refl
 
 node_in_list : meaning (text (plan ∷ outer ∷ node ∷ hole ∷ [])) ≡ broken_meaning 3
@@ -106,7 +106,7 @@ unfolding meaning after_lines grown record_of one_field split
 second_header = refl
 
 leading_zero : meaning (text (plan ∷ outer ∷ at ⇥ zero ⇥ (48 ∷ 49 ∷ []) ∷ [])) ≡ broken_meaning 3
-unfolding meaning after_lines grown record_of one_field three_fields split number_of value_of worth decimal digits digits_within
+unfolding meaning after_lines grown record_of one_field three_fields point_of split number_of value_of worth decimal digits digits_within
 leading_zero = refl
 
 -- ---- line k

@@ -1,5 +1,5 @@
 -- The lines of a text (document 01, item 10: "One more call gives line k of a text").
-use Rattle.std.specs.Prelude.{◌≡◌, List, [], ◌∷◌, ℕ, zero, suc, ◌+◌, ◌≤◌, length, get_or, take, drop}
+use Rattle.std.specs.Prelude.{◌≡◌, List, [], ◌∷◌, ℕ, zero, suc, ◌+◌, ◌≤◌, ◌<◌, length, get_or, take, drop, Option, MatchOption}
 use Rattle.fields.specs.Pieces.{split}
 use Rattle.text.specs.declared.Span.{Span}
 
@@ -24,3 +24,11 @@ pub record LineSpan (text : List ℕ) (k : ℕ) (span : Span) : Type 0 where
   pub starts : span.offset ≡ line_start text k
   pub within : span.offset + span.length ≤ length text
   pub bytes : take span.length (drop span.offset text) ≡ line_of text k
+
+-- there is a line k
+abbrev pub HasLine : List ℕ → ℕ → Type 0
+HasLine text k = (0 < k) × (k ≤ length (split 10 text))
+
+-- line k as a part of its text, where there is one
+abbrev pub LineFound : List ℕ → ℕ → Option Span → Type 0
+LineFound text k r = MatchOption r (HasLine text k → ⊥) (λ span. HasLine text k × LineSpan text k span)

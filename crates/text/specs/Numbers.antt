@@ -1,7 +1,7 @@
 -- What reading a text answers, in numbers (document 01, item 10 and refusals 1, 2 and 11).
 use Rattle.std.specs.Prelude.{Err, Ok, Result}
 use Rattle.rules.specs.declared.Kind.TheVariants.{Polygons}
-use Rattle.states.specs.States.{kind_number}
+use Rattle.rules.specs.Numbers.{kind_number}
 use Rattle.lines.specs.declared.Size.{Size}
 use Rattle.text.specs.declared.numbers.ReadingNumbers.{ReadingNumbers}
 use Rattle.text.specs.Readings.{reading_number, reading_detail}

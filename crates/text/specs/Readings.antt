@@ -1,8 +1,9 @@
 -- What reading a text answers, and what the lent tables then hold (document 01, item 10, refusals 1, 2 and 11).
-use Rattle.std.specs.Prelude.{◌≡◌, cond, List, ℕ, ◌*◌, eqb, ltb, ℤ, length, Err, Ok, Result}
+use Rattle.std.specs.Prelude.{◌≡◌, cond, List, ℕ, ◌*◌, eqb, ltb, ℤ, length, take, Err, Ok, Result}
 use Rattle.rules.specs.declared.Refusal.TheVariants.{TextTooLong, BadLine, TableTooShort}
 use Rattle.rules.specs.declared.Table.TheVariants.{Corners, Rings, Polygons}
 use Rattle.rules.specs.Numbers.{refusal_number, refusal_detail}
+use Rattle.rules.specs.Plans.{Plan}
 use Rattle.lines.specs.declared.Size.{Size}
 use Rattle.lines.specs.Plans.{Meaning, start_meaning, gives_meaning, broken_meaning, meaning, size_of}
 use Rattle.lines.specs.Stored.{plan_in, starting_with}
@@ -65,6 +66,10 @@ detail_due text corners rings polygons = cond (ltb 65536 (length text)) 0 (detai
 abbrev pub written : {A : Type 0} → (Result Size Refusal) → List A → List A → List A
 written (Ok size) xs table = starting_with xs table
 written (Err refusal) xs table = table
+
+-- the plan of this size at the tables' start
+abbrev pub first_plan : Size → List ℤ → List ℕ → List ℕ → Plan
+first_plan size corners lengths counts = record { kind = size.kind; coordinates = take (2 * size.corners) corners; lengths = take size.rings lengths; counts = take size.polygons counts }
 
 -- answer and tables of `read_plan`
 pub record PlanRead (text : List ℕ) (corners corners' : List ℤ) (lengths lengths' counts counts' : List ℕ) (r : Result Size Refusal) : Type 0 where

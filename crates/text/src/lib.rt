@@ -1,15 +1,16 @@
 // Plans as text: reading one, and line k of a text (document 01, item 10).
 #![tactic(auto)]
 
-ghost use Rattle.std.specs.Prelude.{◌≡◌};
-ghost use Rattle.text.specs.Lines.{line_of, LineSpan};
-ghost use Rattle.text.specs.Readings.{with_room, reading, PlanRead};
+ghost use Rattle.std.specs.Prelude.{◌≡◌, ◌*◌, ◌≤◌, length};
+ghost use Rattle.text.specs.Lines.{line_of, LineFound};
+ghost use Rattle.text.specs.Readings.{with_room, reading, PlanRead, first_plan};
 
 use fields::split_once;
 use lines::Size;
 use lines::stages::judge;
 use lines::tables::write_plan;
-use rules::{Refusal, Table};
+use plans::{Plan, PlanRoom};
+use rules::Refusal;
 
 pub mod numbers;
 
@@ -20,15 +21,12 @@ pub const MAX_TEXT: usize = 65536;
 pub fn room(size: Size, corners: usize, rings: usize, polygons: usize) -> Result<Size, Refusal>
     ensures { result ≡ with_room size corners rings polygons }
 {
-    if corners / 2 < size.corners {
-        return Err(Refusal::TableTooShort(Table::Corners));
-    }
-    if rings < size.rings {
-        return Err(Refusal::TableTooShort(Table::Rings));
-    }
-    if polygons < size.polygons {
-        return Err(Refusal::TableTooShort(Table::Polygons));
-    }
+    let room = PlanRoom {
+        corners,
+        rings,
+        polygons,
+    };
+    room.holds(size.corners, size.rings, size.polygons)?;
     Ok(size)
 }
 
@@ -61,42 +59,46 @@ pub fn read_plan(
     Ok(size)
 }
 
+/// The plan of this size at the start of the tables, which have room for it: what `read_plan` read into them.
+pub fn first_plan<'a>(
+    size: Size,
+    corners: &'a [i64],
+    lengths: &'a [usize],
+    counts: &'a [usize],
+) -> Plan<'a>
+    requires { (2 * size.corners ≤ length corners.now) × (size.rings ≤ length lengths.now) × (size.polygons ≤ length counts.now) }
+    ensures { result ≡ first_plan size corners.now lengths.now counts.now }
+{
+    Plan {
+        kind: size.kind,
+        coordinates: &corners[..2 * size.corners],
+        lengths: &lengths[..size.rings],
+        counts: &counts[..size.polygons],
+    }
+}
+
 /// A part of a text: where it starts, in bytes from the text's start, and how many bytes it has.
 #[repr(C)]
-#[derive(Clone, Copy)]
+#[derive(Clone, Copy, Default)]
 pub struct Span {
     pub offset: usize,
     pub length: usize,
 }
 
-// Where there is no line.
-const NO_LINE: Span = Span {
-    offset: 0,
-    length: 0,
-};
-
-/// Where line k of a text stands, counted from 1 and without its line end. Where there is no line k both numbers are 0. An unended last piece
-/// is a line; behind a last line end that piece is empty and stands at the text's end. Nothing is refused.
-pub fn line_span(text: &[u8], k: usize) -> Span
-    ensures { LineSpan text.now k result }
+/// Where line k of a text stands, counted from 1 and without its line end. `None` where there is no line k. An unended last piece is a line;
+/// behind a last line end that piece is empty and stands at the text's end. Nothing is refused.
+pub fn line_span(text: &[u8], k: usize) -> Option<Span>
+    ensures { LineFound text.now k result }
 {
-    if k == 0 {
-        return NO_LINE;
-    }
-    let mut offset = 0;
     let mut rest = text;
-    for _number in 1..k {
-        let Some((line, after)) = split_once(rest, b'\n') else {
-            return NO_LINE;
-        };
-        offset += line.len() + 1;
-        rest = after;
+    for _passed in 0..k.checked_sub(1)? {
+        (_, rest) = split_once(rest, b'\n')?;
     }
-    let length = match split_once(rest, b'\n') {
-        Some((line, _)) => line.len(),
-        None => rest.len(),
-    };
-    Span { offset, length }
+    let line = split_once(rest, b'\n').map_or(rest, |(line, _)| line);
+    Some(Span {
+        offset: text.len() - rest.len(),
+        length: line.len(),
+    })
 }
 
 /// Line k of a text, counted from 1, as a part of it and without its line end. Empty where there is no line k. An unended last piece is a
@@ -104,6 +106,8 @@ pub fn line_span(text: &[u8], k: usize) -> Span
 pub fn line(text: &[u8], k: usize) -> &[u8]
     ensures { result.now ≡ line_of text.now k }
 {
-    let Span { offset, length } = line_span(text, k);
-    &text[offset..offset + length]
+    match line_span(text, k) {
+        Some(Span { offset, length }) => &text[offset..offset + length],
+        None => &[],
+    }
 }

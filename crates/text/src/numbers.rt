@@ -3,13 +3,12 @@ ghost use Rattle.std.specs.Prelude.{◌≡◌};
 ghost use Rattle.text.specs.Numbers.{reading_numbers};
 
 use lines::Size;
-use rules::{Refusal, refusal_detail, refusal_number};
-use states::kind_number;
+use rules::Refusal;
 
 /// What reading a text answers: the refusal number or 0; the line that refusal 2 names, the table that refusal 11 names, or 0; and the plan's
 /// kind (0 a list, 1 a tree) and how many corners, rings and polygons it has, all 0 where the text is refused.
 #[repr(C)]
-#[derive(Clone, Copy)]
+#[derive(Clone, Copy, Default)]
 pub struct ReadingNumbers {
     pub refusal: usize,
     pub detail: usize,
@@ -25,24 +24,18 @@ impl From<Result<Size, Refusal>> for ReadingNumbers {
 
     fn from(reading: Result<Size, Refusal>) -> ReadingNumbers {
         match reading {
-            Ok(size) => {
-                let kind = size.kind;
-                ReadingNumbers {
-                    refusal: 0,
-                    detail: 0,
-                    kind: kind_number(kind),
-                    corners: size.corners,
-                    rings: size.rings,
-                    polygons: size.polygons,
-                }
-            }
+            Ok(size) => ReadingNumbers {
+                refusal: 0,
+                detail: 0,
+                kind: usize::from(size.kind),
+                corners: size.corners,
+                rings: size.rings,
+                polygons: size.polygons,
+            },
             Err(refusal) => ReadingNumbers {
-                refusal: refusal_number(refusal),
-                detail: refusal_detail(refusal),
-                kind: 0,
-                corners: 0,
-                rings: 0,
-                polygons: 0,
+                refusal: usize::from(refusal),
+                detail: refusal.detail(),
+                ..ReadingNumbers::default()
             },
         }
     }

@@ -5,6 +5,7 @@ use Rattle.rules.specs.declared.Unsound.{Unsound}
 use Rattle.rules.specs.Numbers.{refusal_number}
 use Rattle.rules.specs.Plans.{corner_at}
 use Rattle.boxes.specs.Rings.{start_of, next_in, edge_of, RingAt, RingEnds}
+use Rattle.walk.specs.declared.LentPlan.{LentPlan}
 use Rattle.walk.specs.declared.edges.Edge.{Edge}
 
 -- 0 for an edge, or the refusal
@@ -45,3 +46,7 @@ pub record EdgeRefused (n count : ℕ) (corners : List ℤ) (rings : List ℕ) (
 abbrev pub EdgeSays : List ℤ → List ℕ → ℕ → ℕ → ℕ → Result Edge Unsound → Type 0
 EdgeSays corners rings n count e (Ok edge) = EdgeFound n count corners rings e edge
 EdgeSays corners rings n count e (Err _) = EdgeRefused n count corners rings e
+
+-- of a plan that is lent
+abbrev pub EdgeIn : LentPlan → ℕ → Result Edge Unsound → Type 0
+EdgeIn plan e r = EdgeSays plan.corners.now plan.rings.now plan.n plan.count e r

@@ -7,6 +7,7 @@ use Rattle.rules.specs.Nodes.{node_count}
 use Rattle.rules.specs.Numbers.{refusal_number}
 use Rattle.boxes.specs.Boxes.{edge_box}
 use Rattle.index.specs.Sound.{IndexSound}
+use Rattle.walk.specs.declared.LentPlan.{LentPlan}
 use Rattle.walk.specs.Edges.{EdgeSound}
 use Rattle.walk.specs.Steps.{WalkSound}
 
@@ -58,3 +59,10 @@ pub record PlaceRefused (n count : ℕ) (corners : List ℤ) (rings : List ℕ) 
 abbrev pub PlaceSays : ℕ → ℕ → List ℤ → List ℕ → List (List ℤ) → List (List ℕ) → List ℕ → ℕ → Result ℕ Unsound → Type 0
 PlaceSays n count corners rings boxes parts edges e (Ok k) = PlaceFound n count corners rings boxes parts edges e k
 PlaceSays n count corners rings boxes parts edges e (Err _) = PlaceRefused n count corners rings boxes parts edges e
+
+-- of a plan that is lent
+abbrev pub WalkedIn : LentPlan → Rect → ℕ → Result ℕ Unsound → Type 0
+WalkedIn plan wanted e r = WalkedTo plan.n plan.boxes.now plan.parts.now plan.edges.now wanted e r
+
+abbrev pub PlaceIn : LentPlan → ℕ → Result ℕ Unsound → Type 0
+PlaceIn plan e r = PlaceSays plan.n plan.count plan.corners.now plan.rings.now plan.boxes.now plan.parts.now plan.edges.now e r

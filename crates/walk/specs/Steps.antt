@@ -11,6 +11,7 @@ use Rattle.index.specs.Build.{KeptFrom}
 use Rattle.index.specs.Parts.{first_at, count_at, child_at}
 use Rattle.index.specs.Sound.{IndexSound}
 use Rattle.walk.specs.declared.Cursor.{Cursor}
+use Rattle.walk.specs.declared.LentPlan.{LentPlan}
 use Rattle.walk.specs.declared.Query.{Query}
 use Rattle.walk.specs.declared.Query.TheVariants.{Meeting, Holding}
 use Rattle.walk.specs.declared.Node.{Node}
@@ -257,3 +258,10 @@ abbrev pub Says : ℕ → List (List ℤ) → List (List ℕ) → List ℕ → Q
 Says n boxes parts edges query stack cursor stack' (Ok (Some step)) = Yields n boxes parts edges query stack cursor stack' step
 Says n boxes parts edges query stack cursor stack' (Ok None) = Ends n boxes parts edges query stack cursor stack'
 Says n boxes parts edges query stack cursor stack' (Err _) = Refused n boxes parts edges stack cursor stack'
+
+-- ---- of a plan that is lent
+abbrev pub StopIn : LentPlan → Query → List ℕ → Cursor → List ℕ → Result (Option Cursor) Unsound → Type 0
+StopIn plan query stack cursor stack' r = StopSays plan.n plan.boxes.now plan.parts.now plan.edges.now query stack cursor stack' r
+
+abbrev pub StepIn : LentPlan → Query → List ℕ → Cursor → List ℕ → Result (Option Step) Unsound → Type 0
+StepIn plan query stack cursor stack' r = Says plan.n plan.boxes.now plan.parts.now plan.edges.now query stack cursor stack' r

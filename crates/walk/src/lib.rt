@@ -3,7 +3,7 @@
 #![tactic(auto)]
 
 ghost use Rattle.std.specs.Prelude.{◌≡◌, ◌+◌, ◌<◌, ◌≤◌, length};
-ghost use Rattle.walk.specs.Steps.{enters, Lent, Whether, Waiting, NodeSays, after_node, at_place, Begun, TurnSays, StopSays, Says};
+ghost use Rattle.walk.specs.Steps.{enters, Lent, Whether, Waiting, NodeSays, after_node, at_place, Begun, TurnSays, StopIn, StepIn};
 
 /// An edge by its number.
 pub mod edges;
@@ -13,9 +13,30 @@ pub mod place;
 use boxes::rect_at;
 use geom::Rect;
 pub use index::build::STACK;
-use index::build::{LEAF, push};
+use index::build::push;
 use index::count::node_count;
+use index::parts::part_at;
 use rules::Unsound;
+
+/// The tables of a prepared plan as a walk is lent them: n corners in `count` rings, and the hierarchy of boxes over their n edges. Each
+/// table may be longer than the plan; one that is shorter, or holds no plan, is found out.
+#[derive(Clone, Copy)]
+pub struct LentPlan<'a> {
+    /// The corners' coordinates: x, y, x, y, ..
+    pub corners: &'a [i64],
+    /// Where each ring ends.
+    pub rings: &'a [usize],
+    /// The box of each node.
+    pub boxes: &'a [[i64; 4]],
+    /// Where the part of each node starts in the edge list, how long it is, and where the left child stands.
+    pub parts: &'a [[usize; 3]],
+    /// The edge list.
+    pub edges: &'a [usize],
+    /// How many corners there are, and edges.
+    pub n: usize,
+    /// How many rings there are.
+    pub count: usize,
+}
 
 /// What a walk looks for, and so which boxes it enters.
 #[derive(Clone, Copy)]
@@ -56,22 +77,15 @@ pub(crate) enum Node {
 }
 
 // Whether the stack, which has room for so many, and the tables are as long as the state says, and the cursor's numbers within them.
-fn lent_enough(
-    room: usize,
-    boxes: &[[i64; 4]],
-    parts: &[[usize; 3]],
-    edges: &[usize],
-    n: usize,
-    cursor: Cursor,
-) -> bool
-    ensures { Whether (Lent n room (length boxes.now) (length parts.now) (length edges.now) cursor) result }
+fn lent_enough(room: usize, plan: &LentPlan<'_>, cursor: Cursor) -> bool
+    ensures { Whether (Lent plan.now.n room (length plan.now.boxes.now) (length plan.now.parts.now) (length plan.now.edges.now) cursor) result }
 {
     STACK <= room
-        && cursor.nodes <= boxes.len()
-        && cursor.nodes <= parts.len()
-        && n <= edges.len()
+        && cursor.nodes <= plan.boxes.len()
+        && cursor.nodes <= plan.parts.len()
+        && plan.n <= plan.edges.len()
         && cursor.waiting <= STACK
-        && cursor.to <= n
+        && cursor.to <= plan.n
 }
 
 // Whether a node with this box is entered.
@@ -96,23 +110,15 @@ fn node_at(
     requires { (nodes ≤ length boxes.now) × (nodes ≤ length parts.now) }
     ensures { NodeSays boxes.now parts.now n nodes query p result }
 {
-    if nodes <= p {
-        return Err(Unsound);
-    }
-    let [first, count, child] = parts[p];
-    if n < first || n - first < count {
-        return Err(Unsound);
-    }
+    let part = part_at(parts, n, nodes, p)?;
+    let end = part.first + part.count;
     if !is_entered(query, rect_at(boxes, p)) {
-        return Ok(Node::Missed(first + count));
+        return Ok(Node::Missed(end));
     }
-    if count <= LEAF {
-        return Ok(Node::Leaf(first, first + count));
-    }
-    if nodes - 1 <= child {
-        return Err(Unsound);
-    }
-    Ok(Node::Cut(first, child))
+    Ok(match part.left_child(nodes)? {
+        None => Node::Leaf(part.first, end),
+        Some(left) => Node::Cut(part.first, left),
+    })
 }
 
 // Where a walk stands when one more node is met.
@@ -181,18 +187,22 @@ pub fn start(n: usize) -> Cursor
 /// box that the query enters. Whoever takes the leaf's edges goes on from its end, with `to` as `at`.
 pub fn next_leaf(
     stack: &mut [usize],
-    boxes: &[[i64; 4]],
-    parts: &[[usize; 3]],
-    edges: &[usize],
-    n: usize,
+    plan: &LentPlan<'_>,
     query: Query,
     cursor: Cursor,
 ) -> Result<Option<Cursor>, Unsound>
-    ensures { StopSays n boxes.now parts.now edges.now query stack.old cursor stack.new result }
+    ensures { StopIn plan.now query stack.old cursor stack.new result }
 {
-    if !lent_enough(stack.len(), boxes, parts, edges, n, cursor) {
+    if !lent_enough(stack.len(), plan, cursor) {
         return Err(Unsound);
     }
+    // out of the struct before the loop, so that they stay in registers
+    let LentPlan {
+        boxes,
+        parts,
+        n,
+        ..
+    } = *plan;
     let mut here = cursor;
     while here.to <= here.at {
         if here.waiting == 0 {
@@ -228,20 +238,17 @@ pub fn past_leaf(cursor: Cursor) -> Cursor
 /// the stack is too short: never on sound tables with such a cursor and such a stack of at least 18 numbers.
 pub fn next(
     stack: &mut [usize],
-    boxes: &[[i64; 4]],
-    parts: &[[usize; 3]],
-    edges: &[usize],
-    n: usize,
+    plan: &LentPlan<'_>,
     query: Query,
     cursor: Cursor,
 ) -> Result<Option<Step>, Unsound>
-    ensures { Says n boxes.now parts.now edges.now query stack.old cursor stack.new result }
+    ensures { StepIn plan.now query stack.old cursor stack.new result }
 {
-    let Some(here) = next_leaf(stack, boxes, parts, edges, n, query, cursor)? else {
+    let Some(here) = next_leaf(stack, plan, query, cursor)? else {
         return Ok(None);
     };
-    let edge = edges[here.at];
-    if n <= edge {
+    let edge = plan.edges[here.at];
+    if plan.n <= edge {
         return Err(Unsound);
     }
     Ok(Some(Step {

@@ -1,7 +1,7 @@
 -- What writing a plan answers, refusal by refusal, and what is known where its text was written. Assumes nothing.
 use Rattle.std.specs.Prelude.{Err, Ok, Result, ℕ}
-use mathlib.Core.Path.{◌≡◌, refl, sym, ap, ap₂, subst, ◌∙◌}
-use mathlib.Core.Bool.{Bool, true, false, not, cond, ◌&&◌, ◌||◌}
+use mathlib.Core.Path.{◌≡◌, refl, sym, ap, subst, ◌∙◌}
+use mathlib.Core.Bool.{Bool, true, false, not, cond, ◌&&◌}
 use mathlib.Core.List.{List}
 use Prim.Native.Nat.{ℕ, ◌≤◌, ◌<◌}
 use native.Mathlib.Omega.{arith}
@@ -9,7 +9,7 @@ use lib.Dec.{T, eqb, ltb}
 use lib.IntN.{ℤ}
 use lib.ListN.{length}
 use borrow.Author.Tests.{lt-ltb, le-ltb, ltb-false}
-use Rattle.fields.specs.Written.{overwritten, Wrote}
+use Rattle.fields.specs.Written.{Wrote}
 use Rattle.rules.specs.declared.Kind.{Kind}
 use Rattle.rules.specs.declared.Kind.TheVariants.{Polygons, Tree}
 use Rattle.rules.specs.declared.Refusal.{Refusal}
@@ -18,41 +18,31 @@ use Rattle.rules.specs.declared.Table.TheVariants.{Output}
 use Rattle.rules.specs.Lists.{any_of}
 use Rattle.rules.specs.Plans.{Plan, is_list, too_many, uneven, plan_verdict}
 use Rattle.grammar.specs.Texts.{wkt_of}
-use Rattle.writer.specs.Drawn.{list_of, Drawn}
+use Rattle.writer.specs.Drawn.{Drawn}
 use Rattle.writer.specs.Lengths.{TextLong}
 use Rattle.wkt.specs.Writings.{drawable, with_output, drawn_writing, writing_of, writing, writing_number, writing_detail, number_due, detail_due, output_after, Answered, WktWritten}
 use Rattle.rules.specs.Answering.{Verdict, Accepted}
 
 -- ---- 1 and 11
 
-module _ (coordinates : List ℤ) (lengths counts : List ℕ) (room bytes : ℕ) (l : TextLong coordinates lengths counts bytes) where
+module _ (plan : Plan) (room bytes : ℕ) (l : TextLong plan bytes) where
   abbrev due : (Result ℕ Refusal)
-  due = with_output (length (wkt_of (list_of coordinates lengths counts))) room
+  due = with_output (length (wkt_of plan)) room
 
   counted : with_output bytes room ≡ due
   counted = ap (λ n. with_output n room) l.exact
 
-  pub too_long : 65536 < bytes → Answered coordinates (with_output (length (wkt_of (list_of coordinates lengths counts))) room) (Err TextTooLong)
+  pub too_long : 65536 < bytes → Answered plan.coordinates (with_output (length (wkt_of plan)) room) (Err TextTooLong)
   too_long h = record { answer = sym (rw (lt-ltb 65536 bytes h) refl) ∙ counted; fits = tt }
 
   module _ (h : bytes ≤ 65536) where
-    pub too_short_lem : room < bytes → Answered coordinates (with_output (length (wkt_of (list_of coordinates lengths counts))) room) (Err (TableTooShort Output))
+    pub too_short_lem : room < bytes → Answered plan.coordinates (with_output (length (wkt_of plan)) room) (Err (TableTooShort Output))
     too_short_lem k = record { answer = sym (rw (le-ltb 65536 bytes h, lt-ltb room bytes k) refl) ∙ counted; fits = tt }
 
-    pub text_fits : bytes ≤ room → Answered coordinates (with_output (length (wkt_of (list_of coordinates lengths counts))) room) (Ok bytes)
+    pub text_fits : bytes ≤ room → Answered plan.coordinates (with_output (length (wkt_of plan)) room) (Ok bytes)
     text_fits k = record { answer = sym (rw (le-ltb 65536 bytes h, le-ltb room bytes k) refl) ∙ counted; fits = l.fits }
 
 -- ---- 22
-
-undrawable : (list bare : Bool) → not list || bare ≡ true → list && not bare ≡ false
-undrawable true true e = refl
-undrawable true false e = absurd (subst T (sym e) tt)
-undrawable false bare e = refl
-
-is_drawable : (list bare : Bool) → not list || bare ≡ false → (list ≡ true) × (bare ≡ false)
-is_drawable true true e = absurd (subst T e tt)
-is_drawable true false e = (refl, refl)
-is_drawable false bare e = absurd (subst T e tt)
 
 a_list : (kind : Kind) → is_list kind ≡ true → kind ≡ Polygons
 a_list Polygons e = refl
@@ -60,30 +50,6 @@ a_list Tree e = absurd (subst T (sym e) tt)
 
 abbrev pub plan_given : Kind → List ℤ → List ℕ → List ℕ → Plan
 plan_given kind coordinates lengths counts = record { kind = kind; coordinates = coordinates; lengths = lengths; counts = counts }
-
-module _ (kind : Kind) (coordinates : List ℤ) (lengths counts : List ℕ) where
-  abbrev bare : Bool
-  bare = any_of (λ n. eqb n 0) lengths
-
-  pub not_closed : (room : ℕ) → not (is_list kind) || any_of (λ n. eqb n 0) lengths ≡ true → Answered coordinates (drawn_writing (plan_given kind coordinates lengths counts) room) (Err Unclosed)
-  unfolding drawable
-  not_closed room e = record { answer = sym (rw (undrawable (is_list kind) bare e) refl); fits = tt }
-
-  module _ (e : not (is_list kind) || any_of (λ n. eqb n 0) lengths ≡ false) where
-    is_list_lem : kind ≡ Polygons
-    is_list_lem = a_list kind (is_drawable (is_list kind) bare e).0
-
-    pub can_draw : plan_verdict (plan_given kind coordinates lengths counts) ≡ Accepted → Drawn coordinates lengths counts
-    can_draw v = record { accepted = ap (λ k. plan_verdict (plan_given k coordinates lengths counts)) (sym is_list_lem) ∙ v; full = (is_drawable (is_list kind) bare e).1 }
-
-    pub drawn_as : (room : ℕ) (r : Result ℕ Refusal) → Answered coordinates (with_output (length (wkt_of (list_of coordinates lengths counts))) room) r → Answered coordinates (drawn_writing (plan_given kind coordinates lengths counts) room) r
-    unfolding drawable
-    drawn_as room r a =
-        let f = is_drawable (is_list kind) bare e in
-        record {
-          answer = a.answer ∙ ap (λ k. with_output (length (wkt_of (plan_given k coordinates lengths counts))) room) (sym is_list_lem) ∙ sym (ap₂ (λ p q. cond (p && not q) (with_output (length (wkt_of (plan_given kind coordinates lengths counts))) room) (Err Unclosed)) f.0 f.1);
-          fits = a.fits;
-        }
 
 -- ---- 4 and 3
 
@@ -161,21 +127,15 @@ due_for plan room bytes h = by_verdict (plan_verdict plan) refl h
     by_verdict Accepted v e = by_drawing (is_list plan.kind) (any_of (λ n. eqb n 0) plan.lengths) refl refl v e
     by_verdict (Err refusal) v e = different bytes refusal e
 
-module _ (kind : Kind) (coordinates : List ℤ) (lengths counts : List ℕ) (output : List ℕ) (bytes : ℕ) (a : Answered coordinates (writing (plan_given kind coordinates lengths counts) (length output)) (Ok bytes)) where
-  abbrev plan : Plan
-  plan = plan_given kind coordinates lengths counts
-
-  due_here : Due (plan_given kind coordinates lengths counts) (length output) bytes
+module _ (plan : Plan) (output : List ℕ) (bytes : ℕ) (a : Answered plan.coordinates (writing plan (length output)) (Ok bytes)) where
+  due_here : Due plan (length output) bytes
   due_here = due_for plan (length output) bytes a.answer
 
-  pub list_text : wkt_of (list_of coordinates lengths counts) ≡ wkt_of plan
-  list_text = ap (λ k. wkt_of (plan_given k coordinates lengths counts)) (sym due_here.list)
+  pub answered_drawn : Drawn plan
+  answered_drawn = record { list = due_here.list; accepted = due_here.accepted; full = due_here.full }
 
-  pub answered_drawn : Drawn coordinates lengths counts
-  answered_drawn = record { accepted = ap (λ k. plan_verdict (plan_given k coordinates lengths counts)) (sym due_here.list) ∙ due_here.accepted; full = due_here.full }
+  pub answered_room : length (wkt_of plan) ≤ length output
+  answered_room = due_here.reach
 
-  pub answered_room : length (wkt_of (list_of coordinates lengths counts)) ≤ length output
-  answered_room = subst (λ s. length s ≤ length output) (sym list_text) due_here.reach
-
-  pub text_written : (output' : List ℕ) (n : ℕ) → Wrote 0 (wkt_of (list_of coordinates lengths counts)) output output' n → WktWritten (plan_given kind coordinates lengths counts) output output' (Ok bytes)
-  text_written output' n w = written_as plan output output' (Ok bytes) a (w.whole ∙ ap (λ s. overwritten 0 s output) list_text)
+  pub text_written : (output' : List ℕ) (n : ℕ) → Wrote 0 (wkt_of plan) output output' n → WktWritten plan output output' (Ok bytes)
+  text_written output' n w = written_as plan output output' (Ok bytes) a w.whole

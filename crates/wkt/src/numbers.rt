@@ -3,12 +3,12 @@ ghost use Rattle.std.specs.Prelude.{◌≡◌};
 ghost use Rattle.wkt.specs.Numbers.{read_numbers, write_numbers};
 
 use lines::Size;
-use rules::{Refusal, refusal_detail, refusal_number};
+use rules::Refusal;
 
 /// What reading answers: the refusal number or 0; the place that refusal 21 names, the table that refusal 11 names, or 0; and how many
 /// corners, rings and polygons the plan has, all 0 where the text is refused.
 #[repr(C)]
-#[derive(Clone, Copy)]
+#[derive(Clone, Copy, Default)]
 pub struct ReadNumbers {
     pub refusal: usize,
     pub detail: usize,
@@ -19,7 +19,7 @@ pub struct ReadNumbers {
 
 /// What writing answers: the refusal number or 0; the table that refusal 11 names, or 0; and how many bytes were written.
 #[repr(C)]
-#[derive(Clone, Copy)]
+#[derive(Clone, Copy, Default)]
 pub struct WriteNumbers {
     pub refusal: usize,
     pub table: usize,
@@ -40,11 +40,9 @@ impl From<Result<Size, Refusal>> for ReadNumbers {
                 polygons: size.polygons,
             },
             Err(refusal) => ReadNumbers {
-                refusal: refusal_number(refusal),
-                detail: refusal_detail(refusal),
-                corners: 0,
-                rings: 0,
-                polygons: 0,
+                refusal: usize::from(refusal),
+                detail: refusal.detail(),
+                ..ReadNumbers::default()
             },
         }
     }
@@ -62,9 +60,9 @@ impl From<Result<usize, Refusal>> for WriteNumbers {
                 length,
             },
             Err(refusal) => WriteNumbers {
-                refusal: refusal_number(refusal),
-                table: refusal_detail(refusal),
-                length: 0,
+                refusal: usize::from(refusal),
+                table: refusal.detail(),
+                ..WriteNumbers::default()
             },
         }
     }

@@ -41,7 +41,8 @@ fn with_tables(
     room(size, corners, rings, polygons)
 }
 
-// What reading a text into tables that hold so many numbers answers. Nothing is written.
+// What reading a text into tables that hold so many numbers answers. Nothing is written. `text::answer` shares the test of the length alone: it
+// judges by lines and has no 22, so that one function for both would take the judge, its result and its error as parameters.
 fn answer(text: &[u8], corners: usize, rings: usize, polygons: usize) -> Result<Size, Refusal>
     ensures { result ≡ reading text.now corners rings polygons }
 {

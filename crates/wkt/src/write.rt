@@ -3,27 +3,22 @@ ghost use Rattle.std.specs.Prelude.{◌≡◌, length};
 ghost use Rattle.rules.specs.declared.Kind.TheVariants.{Tree};
 ghost use Rattle.rules.specs.Plans.{plan_verdict};
 ghost use Rattle.grammar.specs.Texts.{wkt_of};
-ghost use Rattle.writer.specs.Drawn.{list_of, Drawn};
+ghost use Rattle.writer.specs.Drawn.{Drawn};
 ghost use Rattle.wkt.specs.Writings.{with_output, drawn_writing, writing, unnamed_writing, Answered, WktWritten};
 ghost use Rattle.rules.specs.Answering.{Accepted};
 
-use plans::{has_zero, judge};
-use rules::{Kind, Refusal, Table, is_list};
+use plans::{Plan, has_zero};
+use rules::{Kind, Refusal, Table};
 use text::MAX_TEXT;
 use writer::lengths::text_length;
 use writer::put_text;
 
 // Refusals 1 and 11 of a list that can be written, into an output of so many bytes, or how many bytes its text has.
-fn text_answer(
-    coordinates: &[i64],
-    lengths: &[usize],
-    counts: &[usize],
-    room: usize,
-) -> Result<usize, Refusal>
-    requires { Drawn coordinates.now lengths.now counts.now }
-    ensures { Answered coordinates.now (with_output (length (wkt_of (list_of coordinates.now lengths.now counts.now))) room) result }
+fn text_answer(plan: &Plan<'_>, room: usize) -> Result<usize, Refusal>
+    requires { Drawn plan.now }
+    ensures { Answered plan.now.coordinates (with_output (length (wkt_of plan.now)) room) result }
 {
-    let length = text_length(coordinates, lengths, counts);
+    let length = text_length(plan);
     if MAX_TEXT < length {
         return Err(Refusal::TextTooLong);
     }
@@ -34,34 +29,23 @@ fn text_answer(
 }
 
 // Refusals 22, 1 and 11 of a plan that is accepted.
-fn drawn_answer(
-    kind: Kind,
-    coordinates: &[i64],
-    lengths: &[usize],
-    counts: &[usize],
-    room: usize,
-) -> Result<usize, Refusal>
-    requires { plan_verdict (record { kind = kind; coordinates = coordinates.now; lengths = lengths.now; counts = counts.now }) ≡ Accepted }
-    ensures { Answered coordinates.now (drawn_writing (record { kind = kind; coordinates = coordinates.now; lengths = lengths.now; counts = counts.now }) room) result }
+#[tactic(auto, unfolding(crate::specs::Writings::drawable))]
+fn drawn_answer(plan: &Plan<'_>, room: usize) -> Result<usize, Refusal>
+    requires { plan_verdict plan.now ≡ Accepted }
+    ensures { Answered plan.now.coordinates (drawn_writing plan.now room) result }
 {
-    if !is_list(kind) | has_zero(lengths) {
+    if plan.kind == Kind::Tree || has_zero(plan.lengths) {
         return Err(Refusal::Unclosed);
     }
-    text_answer(coordinates, lengths, counts, room)
+    text_answer(plan, room)
 }
 
 // What writing a plan into an output of so many bytes answers. Nothing is written.
-fn answer(
-    kind: Kind,
-    coordinates: &[i64],
-    lengths: &[usize],
-    counts: &[usize],
-    room: usize,
-) -> Result<usize, Refusal>
-    ensures { Answered coordinates.now (writing (record { kind = kind; coordinates = coordinates.now; lengths = lengths.now; counts = counts.now }) room) result }
+fn answer(plan: &Plan<'_>, room: usize) -> Result<usize, Refusal>
+    ensures { Answered plan.now.coordinates (writing plan.now room) result }
 {
-    judge(kind, coordinates, lengths, counts)?;
-    drawn_answer(kind, coordinates, lengths, counts, room)
+    plan.judge()?;
+    drawn_answer(plan, room)
 }
 
 /// Writes a list plan as Well-Known Text into the output from its start: a `MULTIPOLYGON` with the first corner of each ring repeated at its
@@ -71,17 +55,11 @@ fn answer(
 /// with 1 (`TextTooLong`) where the text has more than 65,536 bytes, else with 11 (`TableTooShort`, table `Output`) where the output is
 /// shorter than the text. A refusal leaves the output as it was. Otherwise the bytes after the text are as they were. Coordinates out of range
 /// are written as others are.
-pub fn write_wkt(
-    kind: Kind,
-    coordinates: &[i64],
-    lengths: &[usize],
-    counts: &[usize],
-    output: &mut [u8],
-) -> Result<usize, Refusal>
-    ensures { WktWritten (record { kind = kind; coordinates = coordinates.now; lengths = lengths.now; counts = counts.now }) output.old output.new result }
+pub fn write_wkt(plan: &Plan<'_>, output: &mut [u8]) -> Result<usize, Refusal>
+    ensures { WktWritten plan.now output.old output.new result }
 {
-    let length = answer(kind, coordinates, lengths, counts, output.len())?;
-    put_text(output, coordinates, lengths, counts);
+    let length = answer(plan, output.len())?;
+    put_text(output, plan);
     Ok(length)
 }
 
@@ -93,6 +71,12 @@ pub fn unnamed_writing(
 ) -> Result<usize, Refusal>
     ensures { result ≡ unnamed_writing (plan_verdict (record { kind = Tree; coordinates = coordinates.now; lengths = lengths.now; counts = counts.now })) }
 {
-    judge(Kind::Tree, coordinates, lengths, counts)?;
+    let tree = Plan {
+        kind: Kind::Tree,
+        coordinates,
+        lengths,
+        counts,
+    };
+    tree.judge()?;
     Err(Refusal::Unsound)
 }

@@ -24,9 +24,9 @@ use Rattle.grammar.proofs.Texts.{All, Some, Fits, Writable, read_again}
 use Rattle.grammar.proofs.Same.{same_self}
 use Rattle.grammar.proofs.Tables.{closed_by}
 use Rattle.grammar.proofs.Again.{polygons, again, same_coordinates, same_lengths, same_counts, even_numbers}
-use Rattle.writer.specs.Drawn.{list_of, Full, Drawn, closed_polygons}
+use Rattle.writer.specs.Drawn.{Full, Drawn, closed_polygons}
 use Rattle.writer.specs.Lengths.{unfit, AllFit}
-use Rattle.writer.proofs.Members.{corners_sum, rings_sum, coordinates_even, counts_full}
+use Rattle.writer.proofs.Members.{list_of, corners_sum, rings_sum, coordinates_even, counts_full}
 use Rattle.writer.proofs.Parts.{parts_count}
 
 -- ---- all of them so
@@ -111,18 +111,18 @@ all_alls [] f = tt
 all_alls (rings ∷ ps) f = (some_all rings f.0, all_alls ps f.1)
 
 -- ---- a list that can be written
-module _ (coordinates : List ℤ) (lengths counts : List ℕ) (d : Drawn coordinates lengths counts) (fit : AllFit coordinates) where
+module _ (coordinates : List ℤ) (lengths counts : List ℕ) (d : Drawn (list_of coordinates lengths counts)) (fit : AllFit coordinates) where
   rings_long : total counts ≡ length (parts_of lengths (corners_of coordinates))
   rings_long = rings_sum coordinates lengths counts d ∙ sym (parts_count lengths (corners_of coordinates))
 
   as_fit : All (Some (Some Fits)) (parts_of counts (parts_of lengths (corners_of coordinates)))
   as_fit = all_parts (Some Fits) counts (parts_of lengths (corners_of coordinates)) (counts_full coordinates lengths counts d) rings_long (all_parts Fits lengths (corners_of coordinates) d.full (corners_sum coordinates lengths counts d) (corners_fit coordinates fit))
 
-  writable : Writable (closed_polygons coordinates lengths counts)
+  writable : Writable (closed_polygons (list_of coordinates lengths counts))
   unfolding polygons_of rings_of
   writable = all_map (Some (Some Fits)) (Some (Some Fits)) (map closed) (some_map (Some Fits) (Some Fits) closed closed_fit) (parts_of counts (parts_of lengths (corners_of coordinates))) as_fit
 
-  pub closed_back : every_closed (closed_polygons coordinates lengths counts) ≡ true
+  pub closed_back : every_closed (closed_polygons (list_of coordinates lengths counts)) ≡ true
   unfolding polygons_of rings_of
   closed_back = polygons_closed (parts_of counts (parts_of lengths (corners_of coordinates))) (all_alls (parts_of counts (parts_of lengths (corners_of coordinates))) as_fit)
 
@@ -132,16 +132,16 @@ module _ (coordinates : List ℤ) (lengths counts : List ℕ) (d : Drawn coordin
       even_numbers coordinates (length coordinates / 2) (omega (arith, odd))
 
   -- the plan that it spells is the list
-  pub plan_back : plan_spelt (closed_polygons coordinates lengths counts) ≡ list_of coordinates lengths counts
+  pub plan_back : plan_spelt (closed_polygons (list_of coordinates lengths counts)) ≡ list_of coordinates lengths counts
   unfolding polygons_of rings_of polygons again
   plan_back =
       let e = numbers_even in
       let s = corners_sum coordinates lengths counts d in
       let t = rings_sum coordinates lengths counts d in
-      ap (λ xs. record { kind = Polygons; coordinates = xs; lengths = Plans.lengths (closed_polygons coordinates lengths counts); counts = Plans.counts (closed_polygons coordinates lengths counts) }) (same_coordinates coordinates lengths counts e s t)
+      ap (λ xs. record { kind = Polygons; coordinates = xs; lengths = Plans.lengths (closed_polygons (list_of coordinates lengths counts)); counts = Plans.counts (closed_polygons (list_of coordinates lengths counts)) }) (same_coordinates coordinates lengths counts e s t)
       ∙ ap₂ (λ ls cs. record { kind = Polygons; coordinates = coordinates; lengths = ls; counts = cs }) (same_lengths coordinates lengths counts e s t) (same_counts coordinates lengths counts e s t)
 
   -- its text spells its polygons, closed
-  pub spelt_back : spelling (wkt_of (list_of coordinates lengths counts)) ≡ spells (closed_polygons coordinates lengths counts)
+  pub spelt_back : spelling (wkt_of (list_of coordinates lengths counts)) ≡ spells (closed_polygons (list_of coordinates lengths counts))
   unfolding wkt_of
-  spelt_back = read_again (closed_polygons coordinates lengths counts) writable
+  spelt_back = read_again (closed_polygons (list_of coordinates lengths counts)) writable

@@ -11,7 +11,7 @@ use borrow.Author.Tests.{eqb-false}
 use Rattle.integers.proofs.Tests.{or_false}
 use Rattle.geom.specs.declared.Point.{Point}
 use Rattle.rules.specs.Lists.{any_of, total, parts_of}
-use Rattle.rules.specs.Plans.{corners_of, rings_of, polygons_of}
+use Rattle.rules.specs.Plans.{Plan, corners_of, rings_of, polygons_of}
 use Rattle.rules.proofs.Corners.{corners_length}
 use Rattle.grammar.specs.Grammar.{Ring, Polygon}
 use Rattle.grammar.specs.Texts.{after, in_brackets, pair_text, ring_text, polygon_text, closed, wkt_text, wkt_of}
@@ -23,7 +23,7 @@ use Rattle.writer.proofs.Numbers.{fit_append}
 use Rattle.writer.proofs.Pairs.{pair_length}
 use Rattle.writer.proofs.Slices.{ring_part, part_length, ring_here}
 use Rattle.writer.proofs.Polygons.{rings_count}
-use Rattle.writer.proofs.Members.{corners_sum, rings_sum, coordinates_even, counts_full, polygons_count}
+use Rattle.writer.proofs.Members.{list_of, corners_sum, rings_sum, coordinates_even, counts_full, polygons_count}
 use Rattle.writer.proofs.Whole.{no_polygons}
 
 -- ---- in brackets: two bytes an item, and the items
@@ -167,7 +167,7 @@ unfolding wkt_text
 some_long [] h = absurd (omega arith)
 some_long (rings ∷ polygons) h = let b = brackets_length polygon_text (rings ∷ polygons) h in omega (arith, b)
 
-module _ (coordinates : List ℤ) (lengths counts : List ℕ) (d : Drawn coordinates lengths counts) (rings : ℕ) (r : RingsLong coordinates lengths rings) where
+module _ (coordinates : List ℤ) (lengths counts : List ℕ) (d : Drawn (list_of coordinates lengths counts)) (rings : ℕ) (r : RingsLong coordinates lengths rings) where
   all_fit : AllFit coordinates
   all_fit =
       let odd = eqb-false (length coordinates % 2) 1 (coordinates_even coordinates lengths counts d) in
@@ -175,17 +175,20 @@ module _ (coordinates : List ℤ) (lengths counts : List ℕ) (d : Drawn coordin
       let l = corners_length coordinates in
       subst AllFit (take_all (2 * total lengths) coordinates (omega (arith, odd, s, l))) r.fits
 
-  pub empty_long : length counts ≡ 0 → TextLong coordinates lengths counts 18
-  empty_long e = record { exact = sym (ap length (no_polygons coordinates lengths counts d e)); fits = all_fit }
+  pub empty_long : length counts ≡ 0 → TextLong (list_of coordinates lengths counts) 18
+  empty_long e = record { exact = sym (ap length (no_polygons (list_of coordinates lengths counts) e)); fits = all_fit }
 
-  pub text_long : (length counts ≡ 0 → ⊥) → TextLong coordinates lengths counts (13 + 2 * length counts + 2 * length lengths + rings)
+  pub text_long : (length counts ≡ 0 → ⊥) → TextLong (list_of coordinates lengths counts) (13 + 2 * length counts + 2 * length lengths + rings)
   unfolding wkt_of polygons_of rings_of
   text_long e =
-      let c = polygons_count coordinates lengths counts d in
-      let w = some_long (closed_polygons coordinates lengths counts) (omega (arith, c, e)) in
+      let c = polygons_count (list_of coordinates lengths counts) in
+      let w = some_long (closed_polygons (list_of coordinates lengths counts)) (omega (arith, c, e)) in
       let k = rings_count coordinates lengths in
       let m = length-map (parts_of lengths (corners_of coordinates)) closed in
       let s = rings_sum coordinates lengths counts d in
       let p = polygons_long counts (parts_of lengths (corners_of coordinates)) (counts_full coordinates lengths counts d) (omega (arith, s, k, m)) in
       let x = r.exact in
       record { exact = omega (arith, c, w, k, m, s, p, x); fits = all_fit }
+
+pub same_long : (plan plan' : Plan) (bytes : ℕ) → plan ≡ plan' → TextLong plan bytes → TextLong plan' bytes
+same_long plan plan' bytes e = subst (λ p. TextLong p bytes) e

@@ -1,16 +1,11 @@
 -- A sum of weights over a list, item by item. Assumes nothing.
-use mathlib.Core.Path.{◌≡◌, refl, ap, sym, ◌∙◌}
+use mathlib.Core.Path.{◌≡◌, ap, sym, ◌∙◌}
 use mathlib.Core.List.{List, [], ◌∷◌, map}
-use Prim.Native.Nat.{ℕ, suc, ◌+◌, ◌≤◌}
+use Prim.Native.Nat.{ℕ, suc, ◌+◌}
 use native.Mathlib.Numerals.{add-one}
 use native.Mathlib.Omega.{arith}
 use lib.ListN.{drop}
 use Rattle.rules.specs.Lists.{total}
-
--- each number is its own weight
-pub map_same : (ns : List ℕ) → map (λ n. n) ns ≡ ns
-map_same [] = refl
-map_same (n ∷ ns) = ap (λ l. n ∷ l) (map_same ns)
 
 -- the items before item i weigh `sum`
 pub record Summed {A : Type 0} (weight : A → ℕ) (xs : List A) (sum i : ℕ) : Type 0 where
@@ -28,9 +23,6 @@ module _ {A : Type 0} (weight : A → ℕ) (xs : List A) where
 
       pub summed_on : Summed weight xs (sum + weight x) (i + 1)
       summed_on = let h = item_here in let a = s.all in record { all = omega (arith, h, a) }
-
-      pub sum_within : sum + weight x ≤ total (map weight xs)
-      sum_within = let h = item_here in let a = s.all in omega (arith, h, a)
 
     pub summed_up : drop i xs ≡ [] → sum ≡ total (map weight xs)
     unfolding total

@@ -7,18 +7,15 @@ use Rattle.grammar.specs.Grammar.{Ring, Polygon}
 use Rattle.grammar.specs.Texts.{closed}
 use Rattle.rules.specs.Answering.{Accepted}
 
--- a list of these three tables
-abbrev pub list_of : List ℤ → List ℕ → List ℕ → Plan
-list_of coordinates lengths counts = record { kind = Polygons; coordinates = coordinates; lengths = lengths; counts = counts }
-
 -- no ring is empty: "a tree or an empty ring gets 22"
 abbrev pub Full : List ℕ → Type 0
 Full lengths = any_of (λ n. eqb n 0) lengths ≡ false
 
 -- a list that can be written: neither 4, 3 nor 22
-pub record Drawn (coordinates : List ℤ) (lengths counts : List ℕ) : Type 0 where
-  pub accepted : plan_verdict (list_of coordinates lengths counts) ≡ Accepted
-  pub full : Full lengths
+pub record Drawn (plan : Plan) : Type 0 where
+  pub list : plan.kind ≡ Polygons
+  pub accepted : plan_verdict plan ≡ Accepted
+  pub full : Full plan.lengths
 
 -- rings that can be written: none is empty, and there are corners for all of them
 pub record Rings (coordinates : List ℤ) (lengths : List ℕ) : Type 0 where
@@ -30,8 +27,8 @@ abbrev pub closed_rings : List ℤ → List ℕ → List Ring
 closed_rings coordinates lengths = map closed (parts_of lengths (corners_of coordinates))
 
 -- the polygons of a list, with closed rings
-abbrev pub closed_polygons : List ℤ → List ℕ → List ℕ → List Polygon
-closed_polygons coordinates lengths counts = map (map closed) (polygons_of (list_of coordinates lengths counts))
+abbrev pub closed_polygons : Plan → List Polygon
+closed_polygons plan = map (map closed) (polygons_of plan)
 
 -- what stands before item i: `(` before the first, `, ` before each other
 abbrev pub lead : ℕ → List ℕ

@@ -2,10 +2,10 @@
 use Rattle.std.specs.Prelude.{◌≡◌, Bool, false, not, List, map, ℕ, ◌+◌, ◌*◌, ◌≤◌, ℤ, length, take}
 use Rattle.fields.specs.Decimals.{decimal, fits_word}
 use Rattle.rules.specs.Lists.{any_of, total}
-use Rattle.rules.specs.Plans.{corners_of}
+use Rattle.rules.specs.Plans.{Plan, corners_of}
 use Rattle.grammar.specs.Grammar.{Ring}
 use Rattle.grammar.specs.Texts.{ring_text, closed, wkt_of}
-use Rattle.writer.specs.Drawn.{list_of, closed_rings}
+use Rattle.writer.specs.Drawn.{closed_rings}
 
 abbrev pub unfit : ℤ → Bool
 unfit z = not (fits_word z)
@@ -40,6 +40,6 @@ pub record RingsLong (coordinates : List ℤ) (lengths : List ℕ) (r : ℕ) : T
   pub fits : AllFit (take (2 * total lengths) coordinates)
 
 -- of the whole text
-pub record TextLong (coordinates : List ℤ) (lengths counts : List ℕ) (r : ℕ) : Type 0 where
-  pub exact : r ≡ length (wkt_of (list_of coordinates lengths counts))
-  pub fits : AllFit coordinates
+pub record TextLong (plan : Plan) (r : ℕ) : Type 0 where
+  pub exact : r ≡ length (wkt_of plan)
+  pub fits : AllFit plan.coordinates

@@ -5,8 +5,10 @@ ghost use Rattle.writer.specs.Drawn.{Rings, Drawn};
 ghost use Rattle.writer.specs.Lengths.{Decimals, RingLong, RingsLong, TextLong};
 
 use fields::write::decimal_length;
+use plans::Plan;
 
-// How many bytes the decimal texts of these numbers have together.
+// How many bytes the decimal texts of these numbers have together. A `for` and no `sum`: that a number has 64 bits, which the clause says of each,
+// is known where it is read, and a closure under `map` would keep it to itself.
 fn decimals(numbers: &[i64]) -> usize
     requires { length numbers.now ≤ 2 ^ 21 }
     ensures { Decimals numbers.now result }
@@ -45,15 +47,14 @@ fn rings_length(coordinates: &[i64], lengths: &[usize]) -> usize
     sum
 }
 
-/// How many bytes a list plan has as Well-Known Text: coordinates x, y, x, y, .., the length of each ring, and how many rings each polygon
-/// has. The plan is one that is accepted and has no empty ring.
-pub fn text_length(coordinates: &[i64], lengths: &[usize], counts: &[usize]) -> usize
-    requires { Drawn coordinates.now lengths.now counts.now }
-    ensures { TextLong coordinates.now lengths.now counts.now result }
+/// How many bytes a plan has as Well-Known Text. The plan is a list that is accepted and has no empty ring.
+pub fn text_length(plan: &Plan<'_>) -> usize
+    requires { Drawn plan.now }
+    ensures { TextLong plan.now result }
 {
-    let rings = rings_length(coordinates, lengths);
-    if counts.is_empty() {
+    let rings = rings_length(plan.coordinates, plan.lengths);
+    if plan.counts.is_empty() {
         return 18;
     }
-    13 + 2 * counts.len() + 2 * lengths.len() + rings
+    13 + 2 * plan.counts.len() + 2 * plan.lengths.len() + rings
 }

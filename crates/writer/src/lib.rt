@@ -6,20 +6,22 @@ ghost use Rattle.fields.specs.Written.{Wrote};
 ghost use Rattle.rules.specs.Lists.{total};
 ghost use Rattle.rules.specs.Plans.{corners_of};
 ghost use Rattle.grammar.specs.Texts.{pair_text, ring_text, polygon_text, closed, wkt_of};
-ghost use Rattle.writer.specs.Drawn.{lead, leads, Rings, closed_rings, closed_polygons, Drawn, list_of};
+ghost use Rattle.writer.specs.Drawn.{lead, leads, Rings, closed_rings, closed_polygons, Drawn};
 
 use fields::write::{put, put_decimal};
+use geom::Point;
+use plans::{Plan, corner_at};
 
 pub mod lengths;
 
 // Writes a position.
-fn put_pair(output: &mut [u8], at: usize, x: i64, y: i64) -> usize
-    requires { at + length (pair_text (record { x = x; y = y })) ≤ length output.old }
-    ensures { Wrote at (pair_text (record { x = x; y = y })) output.old output.new result }
+fn put_pair(output: &mut [u8], at: usize, p: Point) -> usize
+    requires { at + length (pair_text p) ≤ length output.old }
+    ensures { Wrote at (pair_text p) output.old output.new result }
 {
-    let space = put_decimal(output, at, x);
+    let space = put_decimal(output, at, p.x);
     let next = put(output, space, b" ");
-    put_decimal(output, next, y)
+    put_decimal(output, next, p.y)
 }
 
 // Writes what stands before item i of a list: a bracket before the first, a comma and a space before each other.
@@ -34,12 +36,12 @@ fn put_lead(output: &mut [u8], at: usize, i: usize) -> usize
 }
 
 // Writes position i of a ring, with what stands before it.
-fn put_next(output: &mut [u8], at: usize, i: usize, x: i64, y: i64) -> usize
-    requires { at + length (lead i ++ pair_text (record { x = x; y = y })) ≤ length output.old }
-    ensures { Wrote at (lead i ++ pair_text (record { x = x; y = y })) output.old output.new result }
+fn put_next(output: &mut [u8], at: usize, i: usize, p: Point) -> usize
+    requires { at + length (lead i ++ pair_text p) ≤ length output.old }
+    ensures { Wrote at (lead i ++ pair_text p) output.old output.new result }
 {
     let next = put_lead(output, at, i);
-    put_pair(output, next, x, y)
+    put_pair(output, next, p)
 }
 
 // Writes a ring's corners, with what stands before each.
@@ -49,7 +51,7 @@ fn put_corners(output: &mut [u8], at: usize, ring: &[i64]) -> usize
 {
     let mut place = at;
     for i in 0..ring.len() / 2 {
-        place = put_next(output, place, i, ring[2 * i], ring[2 * i + 1]);
+        place = put_next(output, place, i, corner_at(ring, i));
     }
     place
 }
@@ -60,7 +62,7 @@ fn put_ring(output: &mut [u8], at: usize, ring: &[i64]) -> usize
     ensures { Wrote at (ring_text (closed (corners_of ring.now))) output.old output.new result }
 {
     let open = put_corners(output, at, ring);
-    let again = put_next(output, open, 1, ring[0], ring[1]);
+    let again = put_next(output, open, 1, corner_at(ring, 0));
     put(output, again, b")")
 }
 
@@ -85,53 +87,38 @@ fn corner_count(lengths: &[usize]) -> usize
     requires { total lengths.now < 2 ^ 64 }
     ensures { result ≡ total lengths.now }
 {
-    let mut sum = 0;
-    for &corners in lengths {
-        sum += corners;
-    }
-    sum
+    lengths.iter().sum()
 }
 
 // Writes the polygons of a list that has one at least.
-fn put_polygons(
-    output: &mut [u8],
-    at: usize,
-    coordinates: &[i64],
-    lengths: &[usize],
-    counts: &[usize],
-) -> usize
-    requires { Drawn coordinates.now lengths.now counts.now × (at + length (leads polygon_text 0 (closed_polygons coordinates.now lengths.now counts.now)) ≤ length output.old) }
-    ensures { Wrote at (leads polygon_text 0 (closed_polygons coordinates.now lengths.now counts.now)) output.old output.new result }
+fn put_polygons(output: &mut [u8], at: usize, plan: &Plan<'_>) -> usize
+    requires { Drawn plan.now × (at + length (leads polygon_text 0 (closed_polygons plan.now)) ≤ length output.old) }
+    ensures { Wrote at (leads polygon_text 0 (closed_polygons plan.now)) output.old output.new result }
 {
     let mut place = at;
     let mut first = 0;
     let mut ring = 0;
-    for (i, &count) in counts.iter().enumerate() {
+    for (i, &count) in plan.counts.iter().enumerate() {
         let end = ring + count;
-        let rings = &lengths[ring..end];
+        let rings = &plan.lengths[ring..end];
         let next = put_lead(output, place, i);
-        place = put_polygon(output, next, &coordinates[2 * first..], rings);
+        place = put_polygon(output, next, &plan.coordinates[2 * first..], rings);
         first += corner_count(rings);
         ring = end;
     }
     place
 }
 
-/// Writes a list plan into the output from its start: coordinates x, y, x, y, .., the length of each ring, and how many rings each polygon
-/// has. Gives how many bytes it wrote. The plan is one that is accepted and has no empty ring, and the output has room.
-pub fn put_text(
-    output: &mut [u8],
-    coordinates: &[i64],
-    lengths: &[usize],
-    counts: &[usize],
-) -> usize
-    requires { Drawn coordinates.now lengths.now counts.now × (length (wkt_of (list_of coordinates.now lengths.now counts.now)) ≤ length output.old) }
-    ensures { Wrote 0 (wkt_of (list_of coordinates.now lengths.now counts.now)) output.old output.new result }
+/// Writes a plan into the output from its start, and gives how many bytes it wrote. The plan is a list that is accepted and has no empty
+/// ring, and the output has room.
+pub fn put_text(output: &mut [u8], plan: &Plan<'_>) -> usize
+    requires { Drawn plan.now × (length (wkt_of plan.now) ≤ length output.old) }
+    ensures { Wrote 0 (wkt_of plan.now) output.old output.new result }
 {
-    if counts.is_empty() {
+    if plan.counts.is_empty() {
         return put(output, 0, b"MULTIPOLYGON EMPTY");
     }
     let start = put(output, 0, b"MULTIPOLYGON ");
-    let end = put_polygons(output, start, coordinates, lengths, counts);
+    let end = put_polygons(output, start, plan);
     put(output, end, b")")
 }

@@ -1,6 +1,6 @@
 -- `answers::answer_in` meets its contract.
-use mathlib.Core.Path.{◌≡◌, sym, ap, ap₂, subst, ◌∙◌}
-use Prim.Native.Nat.{◌+◌, ◌*◌, ◌≤◌}
+use mathlib.Core.Path.{◌≡◌, sym, ap, ◌∙◌}
+use Prim.Native.Nat.{◌*◌, ◌≤◌}
 use native.Mathlib.Omega.{arith}
 use lib.ListN.{length, take, drop, length-take}
 use Rattle.fields.specs.Pieces.{split}
@@ -8,7 +8,7 @@ use Rattle.rules.specs.Plans.{Plan}
 use Rattle.text.specs.Readings.{reading}
 use Rattle.text.proofs.Answers.{Given, given}
 use Rattle.text.proofs.Held.{counts_fit, plan_held_lem}
-use Rattle.answers.specs.Replies.{refusal_line, replies}
+use Rattle.answers.specs.Replies.{replies}
 use Rattle.answers.proofs.Lines.{wrote_same}
 use Rattle.answers.proofs.Judged.{refused_line, refused_room, replies_due, plan_admitted, plan_due}
 use Rattle.answers.proofs.answer_in.Goals as goal
@@ -34,35 +34,17 @@ held c =
 pub slice_bounds-read_plan-end : goal.slice_bounds-read_plan-end
 slice_bounds-read_plan-end c = let w = c.first_query-place.ensures.within in simp length-take (omega arith)
 
-pub overflow_mul-n : goal.overflow_mul-n
-overflow_mul-n c = let w = counts_fit _ _ _ _ _ (was_given (goal.at.overflow_mul-n c).In-Ok) in let k = c.read_plan.auto in let p = c.requires in omega arith
-
-pub slice_bounds-answer_lines-end : goal.slice_bounds-answer_lines-end
-slice_bounds-answer_lines-end c = let w = counts_fit _ _ _ _ _ (was_given (goal.at.slice_bounds-answer_lines-end c).In-Ok) in let k = c.read_plan.auto in let p = c.requires in omega arith
-
-pub slice_bounds-answer_lines-end-in-Ok : goal.slice_bounds-answer_lines-end-in-Ok
-slice_bounds-answer_lines-end-in-Ok c = let w = counts_fit _ _ _ _ _ (was_given (goal.at.slice_bounds-answer_lines-end-in-Ok c).In-Ok) in let k = c.read_plan.auto in let p = c.requires in simp length-take (omega arith)
-
-pub slice_bounds-answer_lines-end-in-Ok-2 : goal.slice_bounds-answer_lines-end-in-Ok-2
-slice_bounds-answer_lines-end-in-Ok-2 c = let w = counts_fit _ _ _ _ _ (was_given (goal.at.slice_bounds-answer_lines-end-in-Ok-2 c).In-Ok) in let k = c.read_plan.auto in let p = c.requires in omega arith
-
-pub slice_bounds-answer_lines-end-in-Ok-3 : goal.slice_bounds-answer_lines-end-in-Ok-3
-slice_bounds-answer_lines-end-in-Ok-3 c = let w = counts_fit _ _ _ _ _ (was_given (goal.at.slice_bounds-answer_lines-end-in-Ok-3 c).In-Ok) in let k = c.read_plan.auto in let p = c.requires in simp length-take (omega arith)
-
-pub slice_bounds-answer_lines-end-in-Ok-4 : goal.slice_bounds-answer_lines-end-in-Ok-4
-slice_bounds-answer_lines-end-in-Ok-4 c = let w = counts_fit _ _ _ _ _ (was_given (goal.at.slice_bounds-answer_lines-end-in-Ok-4 c).In-Ok) in let k = c.read_plan.auto in let p = c.requires in omega arith
-
-pub slice_bounds-answer_lines-end-in-Ok-5 : goal.slice_bounds-answer_lines-end-in-Ok-5
-slice_bounds-answer_lines-end-in-Ok-5 c = let w = counts_fit _ _ _ _ _ (was_given (goal.at.slice_bounds-answer_lines-end-in-Ok-5 c).In-Ok) in let k = c.read_plan.auto in let p = c.requires in simp length-take (omega arith)
+pub first_plan-plan-requires : goal.first_plan-plan-requires
+first_plan-plan-requires c = let w = counts_fit _ _ _ _ _ (was_given (goal.at.first_plan-plan-requires c).In-Ok) in let k = c.read_plan.auto in let p = c.requires in (omega arith, omega arith, omega arith)
 
 pub answer_lines-requires : goal.answer_lines-requires
-answer_lines-requires c = let f = c.first_query-place in let size = c.in-Ok.size in let given = was_given (goal.at.answer_lines-requires c).In-Ok in let is = held (goal.at.answer_lines-requires c).In-Ok in (plan_admitted c.args.input.now c.requires.0 f.result f.ensures size given _ is, plan_due c.args.input.now c.requires.0 f.result f.ensures size given _ c.args.output.now is c.requires.1)
+answer_lines-requires c = let f = c.first_query-place in let size = c.in-Ok.size in let given = was_given (goal.at.answer_lines-requires c).In-Ok in let is = c.first_plan-plan.ensures ∙ held (goal.at.answer_lines-requires c).In-Ok in (plan_admitted c.args.input.now c.requires.0 f.result f.ensures size given _ is, plan_due c.args.input.now c.requires.0 f.result f.ensures size given _ c.args.output.now is c.requires.1)
 
 pub put_refusal-requires : goal.put_refusal-requires
-put_refusal-requires c = let f = c.first_query-place in let refusal = c.in-Err.refusal in let told = sym c.in-Err.is ∙ read_as (goal.at.put_refusal-requires c).After-read_plan in subst (λ bytes. 0 + length bytes ≤ length c.args.output.now) (sym (ap₂ refusal_line c.refusal_number.ensures c.line_named.ensures)) (refused_room c.args.input.now c.requires.0 f.result f.ensures refusal (length c.args.output.now) c.requires.1 told)
+put_refusal-requires c = let f = c.first_query-place in let refusal = c.in-Err.refusal in let told = sym c.in-Err.is ∙ read_as (goal.at.put_refusal-requires c).After-read_plan in refused_room c.args.input.now c.requires.0 f.result f.ensures refusal (length c.args.output.now) c.requires.1 told
 
 pub returns-in-Ok : goal.returns-in-Ok
-returns-in-Ok c = let i = c.args.input.now in let f = c.first_query-place in let z = c.in-Ok.size in let r = c.answer_lines in wrote_same _ _ c.args.output.now _ r.result (ap (λ plan. replies plan f.result.line (split 10 (drop f.result.from i))) (held (goal.at.returns-in-Ok c).In-Ok) ∙ sym (replies_due i c.requires.0 f.result f.ensures z (was_given (goal.at.returns-in-Ok c).In-Ok))) r.ensures
+returns-in-Ok c = let i = c.args.input.now in let f = c.first_query-place in let z = c.in-Ok.size in let r = c.answer_lines in wrote_same _ _ c.args.output.now _ r.result (ap (λ plan. replies plan f.result.line (split 10 (drop f.result.from i))) (c.first_plan-plan.ensures ∙ held (goal.at.returns-in-Ok c).In-Ok) ∙ sym (replies_due i c.requires.0 f.result f.ensures z (was_given (goal.at.returns-in-Ok c).In-Ok))) r.ensures
 
 pub returns-in-Err : goal.returns-in-Err
-returns-in-Err c = let f = c.first_query-place in let refusal = c.in-Err.refusal in let told = sym c.in-Err.is ∙ read_as (goal.at.returns-in-Err c).After-read_plan in let r = c.put_refusal in wrote_same _ _ c.args.output.now _ r.result (ap₂ refusal_line c.refusal_number.ensures c.line_named.ensures ∙ refused_line c.args.input.now c.requires.0 f.result f.ensures refusal told) r.ensures
+returns-in-Err c = let f = c.first_query-place in let refusal = c.in-Err.refusal in let told = sym c.in-Err.is ∙ read_as (goal.at.returns-in-Err c).After-read_plan in let r = c.put_refusal in wrote_same _ _ c.args.output.now _ r.result (refused_line c.args.input.now c.requires.0 f.result f.ensures refusal told) r.ensures

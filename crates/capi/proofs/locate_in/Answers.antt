@@ -2,10 +2,11 @@
 use Rattle.std.proofs.lemmas.Result.{err_from_is_err_and}
 use mathlib.Core.Path.{sym, ap, ◌∙◌}
 use native.Mathlib.Omega.{arith}
-use lib.ListN.{length, length-take}
+use lib.ListN.{length}
 use Rattle.rules.specs.Plans.{plan_verdict, plan_reply, answer}
 use Rattle.text.proofs.Answers.{Given, given}
-use Rattle.capi.proofs.Readings.{within, refused_reply, plan_held_lem, reply_is}
+use Rattle.text.proofs.Held.{counts_fit, plan_held_lem}
+use Rattle.capi.proofs.Readings.{refused_reply, reply_is}
 use Rattle.capi.proofs.locate_in.Goals as goal
 use Rattle.capi.proofs.locate_in.Goals.{In_ok-size}
 
@@ -15,26 +16,8 @@ was_given c =
     let a = c.args in
     given a.text.now (length a.corners.now) (length a.lengths.now) (length a.counts.now) c.in_ok-size.size (sym c.in_ok-size.was ∙ c.read_plan.ensures.answer)
 
-pub overflow_mul-size : goal.overflow_mul-size
-overflow_mul-size c = let w = within _ _ _ _ _ (was_given (goal.at.overflow_mul-size c).In_ok-size) in omega arith
-
-pub slice_bounds-locate-end : goal.slice_bounds-locate-end
-slice_bounds-locate-end c = let w = within _ _ _ _ _ (was_given (goal.at.slice_bounds-locate-end c).In_ok-size) in let k = c.read_plan.auto in let p = c.requires in omega arith
-
-pub slice_bounds-locate-end-2 : goal.slice_bounds-locate-end-2
-slice_bounds-locate-end-2 c = let w = within _ _ _ _ _ (was_given (goal.at.slice_bounds-locate-end-2 c).In_ok-size) in let k = c.read_plan.auto in let p = c.requires in simp length-take (omega arith)
-
-pub slice_bounds-locate-end-3 : goal.slice_bounds-locate-end-3
-slice_bounds-locate-end-3 c = let w = within _ _ _ _ _ (was_given (goal.at.slice_bounds-locate-end-3 c).In_ok-size) in let k = c.read_plan.auto in let p = c.requires in omega arith
-
-pub slice_bounds-locate-end-4 : goal.slice_bounds-locate-end-4
-slice_bounds-locate-end-4 c = let w = within _ _ _ _ _ (was_given (goal.at.slice_bounds-locate-end-4 c).In_ok-size) in let k = c.read_plan.auto in let p = c.requires in simp length-take (omega arith)
-
-pub slice_bounds-locate-end-5 : goal.slice_bounds-locate-end-5
-slice_bounds-locate-end-5 c = let w = within _ _ _ _ _ (was_given (goal.at.slice_bounds-locate-end-5 c).In_ok-size) in let k = c.read_plan.auto in let p = c.requires in omega arith
-
-pub slice_bounds-locate-end-6 : goal.slice_bounds-locate-end-6
-slice_bounds-locate-end-6 c = let w = within _ _ _ _ _ (was_given (goal.at.slice_bounds-locate-end-6 c).In_ok-size) in let k = c.read_plan.auto in let p = c.requires in simp length-take (omega arith)
+pub first_plan-plan-requires : goal.first_plan-plan-requires
+first_plan-plan-requires c = let w = counts_fit _ _ _ _ _ (was_given (goal.at.first_plan-plan-requires c).In_ok-size) in let k = c.read_plan.auto in (omega arith, omega arith, omega arith)
 
 pub returns : goal.returns
 returns c =
@@ -42,7 +25,7 @@ returns c =
     let r = c.read_plan in
     let g = was_given (goal.at.returns c).In_ok-size in
     c.locate.ensures
-    ∙ ap (λ plan. answer (plan_verdict plan) (plan_reply plan a.p)) (plan_held_lem a.text.now (length a.corners.now) (length a.lengths.now) (length a.counts.now) c.in_ok-size.size g a.corners.now r.new.corners a.lengths.now r.new.lengths a.counts.now r.new.counts (rw c.in_ok-size.was at r.ensures.corners_written) (rw c.in_ok-size.was at r.ensures.lengths_written) (rw c.in_ok-size.was at r.ensures.counts_written))
+    ∙ ap (λ plan. answer (plan_verdict plan) (plan_reply plan a.p)) (c.first_plan-plan.ensures ∙ plan_held_lem a.text.now (length a.corners.now) (length a.lengths.now) (length a.counts.now) c.in_ok-size.size g a.corners.now r.new.corners a.lengths.now r.new.lengths a.counts.now r.new.counts (rw c.in_ok-size.was at r.ensures.corners_written) (rw c.in_ok-size.was at r.ensures.lengths_written) (rw c.in_ok-size.was at r.ensures.counts_written))
     ∙ reply_is a.text.now (length a.corners.now) (length a.lengths.now) (length a.counts.now) c.in_ok-size.size g a.p
 
 pub returns-in_err-size : goal.returns-in_err-size

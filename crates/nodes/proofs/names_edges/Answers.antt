@@ -1,25 +1,14 @@
--- `nodes::names_edges` meets its contract: the places before k of the part name edges.
+-- `nodes::names_edges` meets its contract: the library's `all` asks of each place of the part what the definition asks.
+use Rattle.std.proofs.Common.{rules, tests, ◌∙◌}
+use Rattle.std.proofs.lemmas.Iterator.{YieldsList-from_slice}
+use Rattle.std.proofs.lemmas.Iterator.Search.{all_from_yields_List}
 use native.Mathlib.Omega.{arith}
-use Rattle.nodes.proofs.Tests.{names_start, names_next, names_stray, names_done}
+use lib.Dec.{ltb}
+use Rattle.nodes.proofs.Tests.{names_done}
 use Rattle.nodes.proofs.names_edges.Goals as goal
-
-pub loop-k-init : goal.loop-k-init
-loop-k-init c = let a = c.args in names_start a.n a.edges.now a.first a.size (omega arith)
-
-pub returns-then-n-edges : goal.returns-then-n-edges
-returns-then-n-edges c =
-    let a = c.args in
-    let l = c.loop-k in
-    names_stray a.n a.edges.now a.first a.size l.k (omega arith) (omega arith) l.invariant
-
-pub loop-k-preserved : goal.loop-k-preserved
-loop-k-preserved c =
-    let a = c.args in
-    let l = c.loop-k in
-    names_next a.n a.edges.now a.first a.size l.k (omega arith) (omega arith) l.invariant
 
 pub returns : goal.returns
 returns c =
     let a = c.args in
-    let l = c.loop-k in
-    names_done a.n a.edges.now a.first a.size l.k (omega arith) l.invariant
+    all_from_yields_List (λ e. ltb e a.n) _ _ c.all.result c.all.ensures.ran (YieldsList-from_slice _ c.iter.ensures.rest) (λ x b q k. search (rules, tests))
+    ∙ names_done a.n a.edges.now a.first a.size (omega arith)

@@ -3,5 +3,8 @@ use Rattle.std.proofs.Common.{sym, ◌∙◌}
 use Rattle.nodes.proofs.Tests.{fits_of}
 use Rattle.nodes.proofs.refit_leaf.Goals as goal
 
-pub fitted_leaf-requires : goal.fitted_leaf-requires
-fitted_leaf-requires c = let a = c.args in fits_of a.n a.count a.corners.now a.rings.now a.edges.now _ (sym c.is_fit.ensures ∙ c.if-is_fit.true)
+pub part_box-requires-clause-ring_ends : goal.part_box-requires-clause-ring_ends
+part_box-requires-clause-ring_ends c = let a = c.args in (fits_of a.n a.count a.corners.now a.rings.now a.edges.now c.in_ok-node.node (sym c.is_fit.ensures ∙ c.if-not-is_fit.false)).ends
+
+pub part_box-requires-clause-names : goal.part_box-requires-clause-names
+part_box-requires-clause-names c = let a = c.args in (fits_of a.n a.count a.corners.now a.rings.now a.edges.now c.in_ok-node.node (sym c.is_fit.ensures ∙ c.if-not-is_fit.false)).names

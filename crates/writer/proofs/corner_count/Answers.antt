@@ -1,29 +1,14 @@
--- `writer::corner_count` meets its contract.
-use mathlib.Core.Path.{ap, ◌∙◌}
-use lib.ListN.{get_or, drop_of_length-le}
-use lib.Seq.{drop-cons}
-use Rattle.rules.specs.Lists.{total}
-use Rattle.writer.proofs.Sums.{map_same, summed, summed_on, sum_within, summed_up}
+-- `writer::corner_count` meets its contract: the library's sum is `total`.
+use borrow.Author.Rules.{rules}
+use mathlib.Core.Path.{◌≡◌, ◌∙◌}
+use Prim.Native.Nat.{◌^◌, ◌<◌}
 use native.Mathlib.Omega.{arith}
+use Rattle.std.specs.Prelude.{sum}
+use Rattle.rules.proofs.Library.{total_is}
 use Rattle.writer.proofs.corner_count.Goals as goal
 
-pub loop-corners-init : goal.loop-corners-init
-loop-corners-init c = (omega arith, summed (λ n. n) c.args.lengths.now)
-
-pub overflow_add-sum : goal.overflow_add-sum
-overflow_add-sum c =
-    let xs = c.args.lengths.now in
-    let l = c.loop-corners in
-    omega (arith, c.requires, ap total (map_same xs), sum_within (λ n. n) xs l.sum l.corners-index l.invariant.1 (get_or xs l.corners-index 0) (drop-cons xs l.corners-index 0 c.loop-corners-test.true))
-
-pub loop-corners-preserved : goal.loop-corners-preserved
-loop-corners-preserved c =
-    let xs = c.args.lengths.now in
-    let l = c.loop-corners in
-    (omega (arith, c.loop-corners-test.true), summed_on (λ n. n) xs l.sum l.corners-index l.invariant.1 (get_or xs l.corners-index 0) (drop-cons xs l.corners-index 0 c.loop-corners-test.true))
+pub sum-requires-clause-fits : goal.sum-requires-clause-fits
+sum-requires-clause-fits c = let same = total_is c.args.lengths.now in let few : sum c.args.lengths.now < 2 ^ 64 = omega (arith, same, c.requires) in search rules
 
 pub returns : goal.returns
-returns c =
-    let xs = c.args.lengths.now in
-    let l = c.loop-corners in
-    summed_up (λ n. n) xs l.sum l.corners-index l.invariant.1 (drop_of_length-le xs {i = l.corners-index} c.loop-corners-test.false) ∙ ap total (map_same xs)
+returns c = let summed : c.sum.result ≡ sum c.args.lengths.now = search rules in summed ∙ total_is c.args.lengths.now

@@ -1,19 +1,13 @@
 -- `capi::exports::findspot_locate_doubled` meets its contract.
-use mathlib.Core.Path.{sym, ◌∙◌}
-use mir.Syntax.{w64}
-use mir.Facts.{to_z-of_z}
 use Rattle.geom.specs.Range.{in_doubled_range}
 use Rattle.rules.specs.Plans.{plan_half_reply}
 use Rattle.rules.specs.Tables.{plan_of}
 use Rattle.prepared.specs.Calls.{Looked}
 use Rattle.states.specs.States.{state_named}
-use Rattle.states.proofs.Replying.{replied_unknown, replied_known}
+use Rattle.states.proofs.Replying.{replied_read}
 use Rattle.capi.proofs.exports.findspot_locate_doubled.Goals as goal
 
-pub returns-in-None : goal.returns-in-None
-returns-in-None c = replied_unknown (state_named c.args.state) _ _ (sym c.state_of.ensures ∙ c.in-None.is) (to_z-of_z {w = w64} (record { sfits = c.unsound.type_inv }) ∙ c.unsound.ensures)
-
-pub returns-in-Some : goal.returns-in-Some
-returns-in-Some c =
+pub returns : goal.returns
+returns c =
     let a = c.args in
-    replied_known (state_named a.state) c.in-Some.known a.x a.y (λ p state reply. Looked state a.corners.now a.rings.now a.polygons.now a.boxes.now a.parts.now a.edges.now (in_doubled_range p) (plan_half_reply (plan_of state a.corners.now a.rings.now a.polygons.now) p) reply) c.locate.result _ (sym c.state_of.ensures ∙ c.in-Some.is) c.ranges.x c.ranges.y c.locate.ensures (to_z-of_z {w = w64} (record { sfits = c.reply_number.type_inv }) ∙ c.reply_number.ensures)
+    replied_read (state_named a.state) (λ p s reply. Looked s a.corners.now a.rings.now a.polygons.now a.boxes.now a.parts.now a.edges.now (in_doubled_range p) (plan_half_reply (plan_of s a.corners.now a.rings.now a.polygons.now) p) reply) a.x a.y c.look_up.result c.ranges.x c.ranges.y (record { sfits = c.look_up.type_inv }) c.look_up.ensures

@@ -12,5 +12,5 @@ loop-k-preserved c =
     let N = c.in_ok-here.ensures in (
       N.counts.room,
       N.counts.same ∙ l.invariant.1,
-      λ query few fits ends t. told_on a.n a.count a.corners.now a.rings.now a.edges.now ends few a.ray query a.p l.k l.here.layout l.listed l.slots _ _ _ _ (omega (arith, more, fits)) (l.invariant.2 query few fits ends t) N,
+      λ query few fits ends t. told_on a.plan.now.n a.plan.now.count a.plan.now.corners.now a.plan.now.rings.now a.plan.now.edges.now ends few a.ray query a.p l.k l.here.layout l.listed l.slots _ _ _ _ (omega (arith, more, fits)) (l.invariant.2 query few fits ends t) N,
     )

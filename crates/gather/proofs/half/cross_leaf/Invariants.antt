@@ -7,4 +7,4 @@ use Rattle.gather.proofs.half.cross_leaf.Given as goal
 
 abbrev pub invariant-loop-k : goal.invariant-loop-k
 invariant-loop-k l =
-    (query : Query) → RingEnds l.n l.count l.rings → ParityTo l.at l.corners l.rings l.edges query (half_crossing_at l.n l.corners l.rings l.ray l.p) l.initial.here.odd → ParityTo l.k l.corners l.rings l.edges query (half_crossing_at l.n l.corners l.rings l.ray l.p) l.here.odd
+    (query : Query) → RingEnds l.plan.n l.plan.count l.plan.rings.now → ParityTo l.at l.plan.corners.now l.plan.rings.now l.plan.edges.now query (half_crossing_at l.plan.n l.plan.corners.now l.plan.rings.now l.ray l.p) l.initial.here.odd → ParityTo l.k l.plan.corners.now l.plan.rings.now l.plan.edges.now query (half_crossing_at l.plan.n l.plan.corners.now l.plan.rings.now l.ray l.p) l.here.odd

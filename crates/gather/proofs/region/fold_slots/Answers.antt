@@ -22,9 +22,9 @@ loop-k-preserved c =
     let a = c.args in
     let l = c.loop-k in
     let place = c.place_of-place.ensures ∙ ap place_of (rd_is (get_or a.slots.now l.k (pos 0)) (record { sfits = c.place_of-arg-1.given })) in
-    let step : Folds a.kind a.polygons.now a.polygon_count l.fold (ring_at a.layout a.listed.now l.k) (place_of (get_or a.slots.now l.k (pos 0))) c.fold_ring-fold.result
-    = subst (λ (x : Location). Folds a.kind a.polygons.now a.polygon_count l.fold (ring_at a.layout a.listed.now l.k) x c.fold_ring-fold.result) place
-    (subst (λ (x : ℕ). Folds a.kind a.polygons.now a.polygon_count l.fold x c.place_of-place.result c.fold_ring-fold.result) c.ring_at-ring.ensures c.fold_ring-fold.ensures) in
+    let step : Folds a.polygons.now a.polygon_count l.fold (ring_at a.layout a.listed.now l.k) (place_of (get_or a.slots.now l.k (pos 0))) c.fold_ring-fold.result
+    = subst (λ (x : Location). Folds a.polygons.now a.polygon_count l.fold (ring_at a.layout a.listed.now l.k) x c.fold_ring-fold.result) place
+    (subst (λ (x : ℕ). Folds a.polygons.now a.polygon_count l.fold x c.place_of-place.result c.fold_ring-fold.result) c.ring_at-ring.ensures c.fold_ring-fold.ensures) in
     λ places f S. folded_more a.kind places a.polygons.now a.polygon_count a.count f a.layout a.listed.now a.slots.now S l.k l.fold (l.invariant places f S) (omega (arith, c.size_of-k-end.ensures)) c.fold_ring-fold.result step
 
 pub returns : goal.returns

@@ -8,4 +8,4 @@ use Rattle.gather.proofs.region.fold_slots.Given as goal
 
 abbrev pub invariant-loop-k : goal.invariant-loop-k
 invariant-loop-k l =
-    (places : ℕ → Location) → Fits l.kind l.count l.polygon_count l.polygons → SlotsPlace places l.count l.layout l.listed l.slots → FoldedTo l.kind places l.polygons l.polygon_count l.count l.layout l.listed l.k l.fold
+    (places : ℕ → Location) → Fits l.fn.kind l.count l.polygon_count l.polygons → SlotsPlace places l.count l.layout l.listed l.slots → FoldedTo l.fn.kind places l.polygons l.polygon_count l.count l.layout l.listed l.k l.fold

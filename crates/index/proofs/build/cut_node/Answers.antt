@@ -27,7 +27,7 @@ pub put_children-requires : goal.put_children-requires
 put_children-requires c =
     let room = c.requires.p_lt_free in
     let part = c.requires.part_inside in
-    let few = c.requires.corners_near.few in record { p_in_bounds = (omega arith, omega arith, omega arith, omega arith, omega arith); rest_bound = omega arith }
+    let few = c.requires.corners_near.few in record { p_in_bounds = (omega arith, omega arith, omega arith); part_bound = omega arith }
 
 pub returns : goal.returns
 returns c =

@@ -1,23 +1,24 @@
 -- `outlines::shapes::holes_reply` meets its contract. The invariants: no hole so far decided; the edges counted so far and those still
 use Rattle.std.specs.Prelude.{Ok}
-use mathlib.Core.Path.{◌≡◌, refl, sym, ◌∙◌, ap}
-use Prim.Native.Nat.{◌*◌, ◌/◌, ◌≤◌}
+use mathlib.Core.Path.{◌≡◌, refl, sym, ◌∙◌, ap, subst}
+use mathlib.Core.Bool.{true, false}
+use Prim.Native.Nat.{◌+◌, ◌*◌, ◌/◌, ◌≤◌}
 use native.Mathlib.Omega.{arith}
-use lib.IntN.{◌+ℤ◌}
 use lib.ListN.{length, get_or}
 use mir.Syntax.{w64}
 use mir.Val.{to_z}
-use Rattle.integers.proofs.Bits.{rd, rd_is}
+use Rattle.integers.proofs.Bits.{abs_fits, rd_is}
 use Rattle.rules.specs.declared.Location.TheVariants.{Inside, OnBoundary}
 use Rattle.rules.specs.Plans.{corners_of}
 use Rattle.rules.specs.Replies.{ring_reply, by_hole}
-use Rattle.rings.specs.Crossings.{crossing_of, is_on, weight_of, closed_reply}
+use Rattle.rings.specs.Crossings.{crossing_of, with_edge, ring_winding, place_by}
 use Rattle.rings.specs.Parts.{part}
-use Rattle.rings.proofs.Rounds.{opened, rounded, touched, counted}
+use Rattle.rings.proofs.Rounds.{Counted, corners_on, opened, rounded, touched, counted, on_grid, place_is}
+use Rattle.rings.proofs.Tests.{ne_inside}
 use Rattle.outlines.specs.Rows.{EndSays}
 use Rattle.outlines.proofs.Holes.{none_passed, misfit_refused, all_passed, passed, decided, none_there}
 use Rattle.outlines.proofs.shapes.holes_reply.Goals as goal
-use Rattle.outlines.proofs.shapes.holes_reply.Goals.{After-is_on, After-through_hole-place, In_ok-end}
+use Rattle.outlines.proofs.shapes.holes_reply.Goals.{After-with_edge, After-through_hole-place, In_ok-end}
 
 pub holes-init : goal.holes-init
 holes-init c = let a = c.args in none_passed a.form a.coordinates.now a.rings.now a.start a.p c.requires
@@ -54,17 +55,17 @@ loop-i-init c =
     let h = c.holes in
     let e = c.in_ok-end.end in
     let s = says (goal.at.loop-i-init c).In_ok-end in
-    opened a.coordinates.now a.p h.at e (reaches (goal.at.loop-i-init c).In_ok-end) c.corner_at-first.result (omega arith) c.corner_at-first.ensures
+    opened false a.coordinates.now a.p h.at e (reaches (goal.at.loop-i-init c).In_ok-end) c.corner_at-first.result (omega arith) c.corner_at-first.ensures
 
 pub corner_at-b-requires : goal.corner_at-b-requires
 corner_at-b-requires c = let s = reaches (goal.at.corner_at-b-requires c).In_ok-end in omega arith
 
--- what `is_on` said of the edge
-told : (c : After-is_on) → c.is_on.result ≡ is_on (crossing_of c.loop-i.a c.corner_at-b.result c.args.p)
-told c = c.is_on.ensures ∙ ap is_on c.crossing_of-crossing.ensures
+-- what `with_edge` said of the edge
+told : (c : After-with_edge) → c.with_edge.result ≡ with_edge (to_z w64 c.loop-i.winding-bits) (crossing_of c.loop-i.a c.corner_at-b.result c.args.p)
+told c = c.with_edge.ensures ∙ ap (with_edge (to_z w64 c.loop-i.winding-bits)) c.crossing_of.ensures
 
-pub wound-winding-requires : goal.wound-winding-requires
-wound-winding-requires c = let s = reaches (goal.at.wound-winding-requires c).In_ok-end in omega arith
+pub with_edge-requires : goal.with_edge-requires
+with_edge-requires c = let s = reaches (goal.at.with_edge-requires c).In_ok-end in let h = c.loop-i.invariant.small in omega (arith, h)
 
 pub loop-i-preserved : goal.loop-i-preserved
 loop-i-preserved c =
@@ -72,41 +73,52 @@ loop-i-preserved c =
     let h = c.holes in
     let e = c.in_ok-end.end in
     let l = c.loop-i in
-    counted a.coordinates.now a.p h.at e (reaches (goal.at.loop-i-preserved c).In_ok-end) c.corner_at-first.result l.a (to_z w64 l.winding-bits) l.i l.invariant c.corner_at-b.result c.loop-i-test.true c.corner_at-b.ensures (sym (told (goal.at.loop-i-preserved c).After-is_on) ∙ c.if-is_on.false) (rd c.wound-winding.result)
-    (rd_is c.wound-winding.result (record { sfits = c.wound-winding.type_inv }) ∙ c.wound-winding.ensures ∙ ap (λ k. to_z w64 l.winding-bits +ℤ weight_of k) c.crossing_of-crossing.ensures)
+    let reach = reaches (goal.at.loop-i-preserved c).In_ok-end in
+    let w = c.in-Some.further in
+    let next : Counted false a.coordinates.now a.p h.at e c.corner_at-first.result c.corner_at-b.result w (l.i + 1)
+    = counted false a.coordinates.now a.p h.at e reach c.corner_at-first.result l.a (to_z w64 l.winding-bits) l.i l.invariant c.corner_at-b.result c.loop-i-test.true c.corner_at-b.ensures
+    c.with_edge.result (told (goal.at.loop-i-preserved c).After-with_edge) w c.in-Some.is in
+    subst (λ w. Counted false a.coordinates.now a.p h.at e c.corner_at-first.result c.corner_at-b.result w (l.i + 1)) (sym (rd_is w (abs_fits w (omega (arith, next.small, next.inside, reach))))) next
 
-pub closed-requires : goal.closed-requires
-closed-requires c = let s = reaches (goal.at.closed-requires c).In_ok-end in omega arith
+pub with_edge-requires-in-holes : goal.with_edge-requires-in-holes
+with_edge-requires-in-holes c = let s = reaches (goal.at.with_edge-requires-in-holes c).In_ok-end in let h = c.loop-i.invariant.small in omega (arith, h)
+
+-- the hole as its corners stand
+hole_is : (c : In_ok-end) → let a = c.args in place_by (ring_winding (corners_on false a.coordinates.now c.holes.at c.in_ok-end.end) a.p) ≡ ring_reply (part (corners_of a.coordinates.now) c.holes.at c.in_ok-end.end) a.p
+hole_is c = let a = c.args in
+    let hole = part (corners_of a.coordinates.now) c.holes.at c.in_ok-end.end in
+    ap (λ ring. place_by (ring_winding ring a.p)) (on_grid hole) ∙ place_is hole a.p
 
 -- where the hole leaves the point, once its closing edge is counted
 left_at : (c : After-through_hole-place) → let a = c.args in c.through_hole-place.result ≡ by_hole (ring_reply (part (corners_of a.coordinates.now) c.holes.at c.in_ok-end.end) a.p) Inside
 left_at c =
     let a = c.args in
     let l = c.loop-i in
-    c.through_hole-place.ensures
-    ∙ ap (λ place. by_hole place Inside) (c.closed.ensures ∙ ap (closed_reply (to_z w64 l.winding-bits)) c.crossing_of.ensures ∙ rounded a.coordinates.now a.p c.holes.at c.in_ok-end.end (reaches (goal.at.After-through_hole-place c).In_ok-end) c.corner_at-first.result l.a (to_z w64 l.winding-bits) l.i l.invariant (omega arith))
+    let winding = c.with_edge-in-holes.ensures ∙ ap (with_edge (to_z w64 l.winding-bits)) c.crossing_of-in-holes.ensures ∙ rounded false a.coordinates.now a.p c.holes.at c.in_ok-end.end (reaches (goal.at.After-through_hole-place c).In_ok-end) c.corner_at-first.result l.a (to_z w64 l.winding-bits) l.i l.invariant (omega arith) in
+    c.through_hole-place.ensures ∙ ap (λ place. by_hole place Inside) (c.place_by.ensures ∙ ap place_by winding ∙ hole_is (goal.at.After-through_hole-place c).In_ok-end)
 
 pub holes-preserved : goal.holes-preserved
 holes-preserved c =
     let a = c.args in
     let h = c.holes in
     let e = c.in_ok-end.end in
-    passed a.form a.coordinates.now a.rings.now a.start a.p h.place h.at h.entry-index h.invariant e c.holes-test.true (says (goal.at.holes-preserved c).In_ok-end) c.through_hole-place.result (left_at (goal.at.holes-preserved c).After-through_hole-place) (sym c.is_inside.ensures ∙ c.if-not-is_inside.false)
+    passed a.form a.coordinates.now a.rings.now a.start a.p h.place h.at h.entry-index h.invariant e c.holes-test.true (says (goal.at.holes-preserved c).In_ok-end) c.through_hole-place.result (left_at (goal.at.holes-preserved c).After-through_hole-place) (ne_inside c.through_hole-place.result c.ne.result true c.ne.ensures c.if-ne.false)
 
 pub returns-after-holes : goal.returns-after-holes
 returns-after-holes c = let a = c.args in let h = c.holes in all_passed a.form a.coordinates.now a.rings.now a.start a.p h.place h.at h.entry-index h.invariant c.holes-test.false
 
-pub returns-then-is_on : goal.returns-then-is_on
-returns-then-is_on c =
+pub returns-in_default : goal.returns-in_default
+returns-in_default c =
     let a = c.args in
     let h = c.holes in
     let e = c.in_ok-end.end in
     let l = c.loop-i in
-    decided a.form a.coordinates.now a.rings.now a.start a.p h.place h.at h.entry-index h.invariant e c.holes-test.true (says (goal.at.returns-then-is_on c).In_ok-end) OnBoundary (ap (λ place. by_hole place Inside) (sym (touched a.coordinates.now a.p h.at e (reaches (goal.at.returns-then-is_on c).In_ok-end) c.corner_at-first.result l.a (to_z w64 l.winding-bits) l.i l.invariant c.corner_at-b.result c.loop-i-test.true c.corner_at-b.ensures (sym (told (goal.at.returns-then-is_on c).After-is_on) ∙ c.if-is_on.true)))) refl
+    let on = touched false a.coordinates.now a.p h.at e (reaches (goal.at.returns-in_default c).In_ok-end) c.corner_at-first.result l.a (to_z w64 l.winding-bits) l.i l.invariant c.corner_at-b.result c.loop-i-test.true c.corner_at-b.ensures c.with_edge.result (told (goal.at.returns-in_default c).After-with_edge) c.in_default.is in
+    decided a.form a.coordinates.now a.rings.now a.start a.p h.place h.at h.entry-index h.invariant e c.holes-test.true (says (goal.at.returns-in_default c).In_ok-end) OnBoundary (ap (λ place. by_hole place Inside) (ap place_by on ∙ hole_is (goal.at.returns-in_default c).In_ok-end)) refl
 
-pub returns-then-not-is_inside : goal.returns-then-not-is_inside
-returns-then-not-is_inside c =
+pub returns-then-ne : goal.returns-then-ne
+returns-then-ne c =
     let a = c.args in
     let h = c.holes in
     let e = c.in_ok-end.end in
-    decided a.form a.coordinates.now a.rings.now a.start a.p h.place h.at h.entry-index h.invariant e c.holes-test.true (says (goal.at.returns-then-not-is_inside c).In_ok-end) c.through_hole-place.result (left_at (goal.at.returns-then-not-is_inside c).After-through_hole-place) (sym c.is_inside.ensures ∙ c.if-not-is_inside.true)
+    decided a.form a.coordinates.now a.rings.now a.start a.p h.place h.at h.entry-index h.invariant e c.holes-test.true (says (goal.at.returns-then-ne c).In_ok-end) c.through_hole-place.result (left_at (goal.at.returns-then-ne c).After-through_hole-place) (ne_inside c.through_hole-place.result c.ne.result false c.ne.ensures c.if-ne.true)

@@ -1,6 +1,7 @@
 -- `outlines::shapes::list_reply` meets its contract. The invariant: the strongest reply so far and the polygons still to come, with the
 use Rattle.std.specs.Prelude.{Ok}
 use mathlib.Core.Path.{◌≡◌, refl, sym, ◌∙◌, ap, subst}
+use mathlib.Core.Bool.{true}
 use mathlib.Core.Logic.{inl}
 use mathlib.Core.List.{List, ◌∷◌}
 use Prim.Native.Nat.{◌+◌, ◌/◌}
@@ -11,6 +12,7 @@ use Rattle.rules.specs.declared.Location.TheVariants.{Outside, Inside}
 use Rattle.rules.specs.Plans.{corners_of}
 use Rattle.rules.specs.Replies.{polygon_reply, stronger}
 use Rattle.rings.specs.Parts.{part}
+use Rattle.rings.proofs.Tests.{eq_inside}
 use Rattle.outlines.specs.Rows.{Within, parts_from, EndSays}
 use Rattle.outlines.proofs.Alignment.{aligned, slice_fits, slice_is, realigned}
 use Rattle.outlines.proofs.Progress.{misfit_placed, refused_placed, begun, refused, over, ahead, onward}
@@ -88,15 +90,15 @@ weighed c later r w =
     let place : c.in_ok-place.place ≡ polygon_reply (part (parts_from a.form (corners_of a.coordinates.now) 0 a.rings.now) l.first e) a.p = same_place _ _ (sym c.in_ok-place.was ∙ shown (goal.at.After-stronger-best c).After-polygon_reply w) in
     subst (λ best. Weighed (parts_from a.form (parts_from a.form (corners_of a.coordinates.now) 0 a.rings.now) 0 a.polygons.now) a.p best later) (sym (c.stronger-best.ensures ∙ ap (stronger l.best) place)) (polygon_weighed (parts_from a.form (parts_from a.form (corners_of a.coordinates.now) 0 a.rings.now) 0 a.polygons.now) a.p l.best (part (parts_from a.form (corners_of a.coordinates.now) 0 a.rings.now) l.first e) later (r w))
 
-pub returns-then-is_inside : goal.returns-then-is_inside
-returns-then-is_inside c =
+pub returns-then-eq : goal.returns-then-eq
+returns-then-eq c =
     let a = c.args in
     let l = c.loop-entry in
     let e = c.in_ok-last.last in
     let later = parts_from a.form (parts_from a.form (corners_of a.coordinates.now) 0 a.rings.now) e (drop (l.entry-index + 1) a.polygons.now) in
     record {
       placed = inl (Inside, refl);
-      exact = λ w v. ap Ok (inside_wins (parts_from a.form (parts_from a.form (corners_of a.coordinates.now) 0 a.rings.now) 0 a.polygons.now) a.p c.stronger-best.result later (sym c.is_inside.ensures ∙ c.if-is_inside.true) (weighed (goal.at.returns-then-is_inside c).After-stronger-best later (ahead a.form (length a.rings.now) 0 (parts_from a.form (corners_of a.coordinates.now) 0 a.rings.now) a.polygons.now l.first l.entry-index (Best a.form a.coordinates.now a.rings.now a.polygons.now a.p l.best) l.invariant.0 e (omega arith) (says (goal.at.returns-then-is_inside c).In_ok-last) v) w));
+      exact = λ w v. ap Ok (inside_wins (parts_from a.form (parts_from a.form (corners_of a.coordinates.now) 0 a.rings.now) 0 a.polygons.now) a.p c.stronger-best.result later (eq_inside c.stronger-best.result c.eq.result true c.eq.ensures c.if-eq.true) (weighed (goal.at.returns-then-eq c).After-stronger-best later (ahead a.form (length a.rings.now) 0 (parts_from a.form (corners_of a.coordinates.now) 0 a.rings.now) a.polygons.now l.first l.entry-index (Best a.form a.coordinates.now a.rings.now a.polygons.now a.p l.best) l.invariant.0 e (omega arith) (says (goal.at.returns-then-eq c).In_ok-last) v) w));
     }
 
 pub loop-entry-preserved : goal.loop-entry-preserved

@@ -1,6 +1,7 @@
 -- `outlines::shapes::polygon_reply` meets its contract: the outer ring's reply, or else the holes'.
 use Rattle.std.specs.Prelude.{Ok}
 use mathlib.Core.Path.{◌≡◌, refl, sym, ◌∙◌, ap, subst}
+use mathlib.Core.Bool.{true, false}
 use mathlib.Core.Logic.{inl}
 use mathlib.Core.List.{List, ◌∷◌}
 use Prim.Native.Nat.{◌/◌}
@@ -11,6 +12,7 @@ use Rattle.rules.specs.declared.Location.TheVariants.{Outside}
 use Rattle.rules.specs.Plans.{corners_of}
 use Rattle.rules.specs.Replies.{within_outer, holes_reply, polygon_reply}
 use Rattle.rings.specs.Parts.{part}
+use Rattle.rings.proofs.Tests.{ne_inside}
 use Rattle.outlines.specs.Rows.{Within, parts_from, EndSays}
 use Rattle.outlines.specs.Shapes.{Shown}
 use Rattle.outlines.proofs.Cuts.{to_the_end, none_left, parts_none}
@@ -56,10 +58,10 @@ by_outer c w =
     ∙ outer_first a.p (part (corners_of a.coordinates.now) a.start e ∷ holes) (part (corners_of a.coordinates.now) a.start e) holes refl
     ∙ ap (λ place. within_outer place (holes_reply holes a.p)) (sym c.ring_reply-outer.ensures)
 
-pub returns-then-not-is_inside : goal.returns-then-not-is_inside
-returns-then-not-is_inside c =
+pub returns-then-ne : goal.returns-then-ne
+returns-then-ne c =
     let outer = c.ring_reply-outer.result in
-    record { placed = inl (outer, refl); exact = λ w. ap Ok (sym (by_outer (goal.at.returns-then-not-is_inside c).After-ring_reply-outer w ∙ outer_decides outer _ (sym c.is_inside.ensures ∙ c.if-not-is_inside.true))) }
+    record { placed = inl (outer, refl); exact = λ w. ap Ok (sym (by_outer (goal.at.returns-then-ne c).After-ring_reply-outer w ∙ outer_decides outer _ (ne_inside outer c.ne.result false c.ne.ensures c.if-ne.true))) }
 
 pub holes_reply-requires : goal.holes_reply-requires
 holes_reply-requires c = let h = says (goal.at.holes_reply-requires c).In_ok-end in omega arith
@@ -74,5 +76,5 @@ returns c =
     let next = onward a.form (length a.coordinates.now / 2) a.start (corners_of a.coordinates.now) a.rings.now a.start 0 (Same (parts_from a.form (corners_of a.coordinates.now) a.start a.rings.now) a.p) (fresh (goal.at.returns c).In-len1-up) e (omega arith) (says (goal.at.returns c).In_ok-end) (λ later. Unit {0}) (λ later same. tt) in
     record {
       placed = shown.placed;
-      exact = λ w. shown.exact (next.rest w) ∙ ap Ok (sym (by_outer (goal.at.returns c).After-ring_reply-outer w ∙ outer_inside outer _ (sym c.is_inside.ensures ∙ c.if-not-is_inside.false)));
+      exact = λ w. shown.exact (next.rest w) ∙ ap Ok (sym (by_outer (goal.at.returns c).After-ring_reply-outer w ∙ outer_inside outer _ (ne_inside outer c.ne.result true c.ne.ensures c.if-ne.false)));
     }

@@ -13,4 +13,4 @@ pub returns-in-OnGrid : goal.returns-in-OnGrid
 returns-in-OnGrid c = λ h. let a = c.args in c.ray_of.ensures ∙ ap (λ root. ray_of a.n root c.in-OnGrid.p) c.rect_at-root.ensures ∙ ap (spot_ray a.n (rect_at a.boxes.now 0)) (sym c.in-OnGrid.is)
 
 pub returns-in-Doubled : goal.returns-in-Doubled
-returns-in-Doubled c = λ h. let a = c.args in c.half_ray_of.ensures ∙ ap (λ root. ray_of a.n (near_doubled_rect root) c.in-Doubled.p) c.rect_at-root.ensures ∙ ap (spot_ray a.n (rect_at a.boxes.now 0)) (sym c.in-Doubled.is)
+returns-in-Doubled c = λ h. let a = c.args in c.ray_of-in-Doubled.ensures ∙ ap (λ root. ray_of a.n root c.in-Doubled.p) (c.doubled_rect.ensures ∙ ap near_doubled_rect c.rect_at-root.ensures) ∙ ap (spot_ray a.n (rect_at a.boxes.now 0)) (sym c.in-Doubled.is)

@@ -15,5 +15,5 @@ returns-in-Polygons c =
 pub returns-in-Tree : goal.returns-in-Tree
 returns-in-Tree c =
     let a = c.args in
-    subst (λ (kind : Kind). PlanShown a.form kind a.coordinates.now a.rings.now a.polygons.now a.p c.tree_reply.result) (sym c.in-Tree.is)
-    (record { placed = c.tree_reply.ensures.placed; exact = λ f. c.tree_reply.ensures.exact f.by_ring ∙ ap Ok (tree_is a.form a.coordinates.now a.rings.now a.polygons.now a.p) })
+    subst (λ (kind : Kind). PlanShown a.form kind a.coordinates.now a.rings.now a.polygons.now a.p c.parity_reply.result) (sym c.in-Tree.is)
+    (record { placed = c.parity_reply.ensures.placed; exact = λ f. c.parity_reply.ensures.exact f.by_ring ∙ ap Ok (tree_is a.form a.coordinates.now a.rings.now a.polygons.now a.p) })

@@ -12,13 +12,18 @@ use Rattle.query.specs.Calls.{SpotShown}
 use Rattle.query.proofs.Fits.{sound_fits, spot_located}
 use Rattle.query.proofs.LookUps.{spot_far, marked, beyond, unsound, done, short_is, never_short, Long, long}
 use Rattle.query.proofs.plan.locate_by_rings.Goals as goal
-use Rattle.query.proofs.plan.locate_by_rings.Goals.{Else-corners-n, Else-not-in_range}
+use Rattle.query.proofs.plan.locate_by_rings.Goals.{then-state-via-then-state, then-state-via-else-state+then-not-in_range, Else-corners-n, Else-not-in_range}
 
+-- the plan is out of range, or the spot is
 pub returns-then-state : goal.returns-then-state
-returns-then-state c = let a = c.args in marked a.state a.corners.now a.rings.now a.polygons.now (spot_in_range a.spot) (spot_reply (plan_of a.state a.corners.now a.rings.now a.polygons.now) a.spot) c.if-state.true
-
-pub returns-then-not-in_range : goal.returns-then-not-in_range
-returns-then-not-in_range c = let a = c.args in beyond a.state a.corners.now a.rings.now a.polygons.now (spot_in_range a.spot) (spot_reply (plan_of a.state a.corners.now a.rings.now a.polygons.now) a.spot) (sym c.in_range.ensures ∙ c.if-not-in_range.true) (spot_far (plan_of a.state a.corners.now a.rings.now a.polygons.now) a.spot (sym c.in_range.ensures ∙ c.if-not-in_range.true))
+returns-then-state c = let a = c.args in
+    let place = spot_reply (plan_of a.state a.corners.now a.rings.now a.polygons.now) a.spot in
+    elim c.then-state.branch [
+      | then-state-via-then-state w ↦ marked a.state a.corners.now a.rings.now a.polygons.now (spot_in_range a.spot) place w.if-state.true
+      | then-state-via-else-state+then-not-in_range w ↦
+          let far = sym w.in_range.ensures ∙ w.if-not-in_range.true in
+          beyond a.state a.corners.now a.rings.now a.polygons.now (spot_in_range a.spot) place far (spot_far (plan_of a.state a.corners.now a.rings.now a.polygons.now) a.spot far)
+    ]
 
 ranged : (c : Else-not-in_range) → spot_in_range c.args.spot ≡ true
 ranged c = sym c.in_range.ensures ∙ c.if-not-in_range.false

@@ -16,6 +16,6 @@ returns-in-OnGrid c =
 pub returns-in-Doubled : goal.returns-in-Doubled
 returns-in-Doubled c =
     let a = c.args in
-    let shown = c.half_reply.ensures in
-    subst (λ (spot : Spot). SpotShown a.form a.kind a.coordinates.now a.rings.now a.polygons.now spot c.half_reply.result) (sym c.in-Doubled.is)
+    let shown = c.parity_reply.ensures in
+    subst (λ (spot : Spot). SpotShown a.form a.kind a.coordinates.now a.rings.now a.polygons.now spot c.parity_reply.result) (sym c.in-Doubled.is)
     (record { placed = shown.placed; exact = λ fits near. shown.exact fits.by_ring ∙ ap Ok (half_is a.form a.kind a.coordinates.now a.rings.now a.polygons.now c.in-Doubled.p near) })

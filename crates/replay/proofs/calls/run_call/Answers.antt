@@ -2,7 +2,7 @@
 use Rattle.model.specs.Prepared.{Prepared, prepared_of}
 use Rattle.replay.proofs.LookUps.{locate_is_step, locate_doubled_is_step}
 use Rattle.replay.proofs.calls.run_call.Goals as goal
-use Rattle.replay.proofs.calls.run_call.Goals.{Start}
+use Rattle.replay.proofs.calls.run_call.Goals.{Start, in-Locate, in-LocateDoubled}
 
 -- what is given
 abbrev given : (c : Start) → Prepared
@@ -14,8 +14,12 @@ returns-in-Move c = rw (c.in-Move.is, c.corrected.ensures) (c.move_corner.ensure
 pub returns-in-Undo : goal.returns-in-Undo
 returns-in-Undo c = rw (c.in-Undo.is, c.corrected-in-Undo.ensures) (c.undo.ensures c.args.polygons.now)
 
-pub returns-in-Locate : goal.returns-in-Locate
-returns-in-Locate c = rw (c.in-Locate.is, c.looked_up.ensures) (locate_is_step (given (goal.at.returns-in-Locate c).Start) _ c.locate.result c.locate.ensures)
-
-pub returns-in-LocateDoubled : goal.returns-in-LocateDoubled
-returns-in-LocateDoubled c = rw (c.in-LocateDoubled.is, c.looked_up-in-LocateDoubled.ensures) (locate_doubled_is_step (given (goal.at.returns-in-LocateDoubled c).Start) _ c.locate-in-LocateDoubled.result c.locate-in-LocateDoubled.ensures)
+pub returns : goal.returns
+returns c =
+    let d = given (goal.at.returns c).Start in
+    let f = c.locate in
+    rw c.from.ensures
+    (elim c.match-call.branch [
+      | in-Locate w ↦ rw w.in-Locate.is (locate_is_step d w.in-Locate.p f.result (rw w.spot-is at f.ensures))
+      | in-LocateDoubled w ↦ rw w.in-LocateDoubled.is (locate_doubled_is_step d w.in-LocateDoubled.p f.result (rw w.spot-is at f.ensures))
+    ])

@@ -16,7 +16,7 @@ pub bounds-answers-k : goal.bounds-answers-k
 bounds-answers-k c = let t = c.loop-k-test.true in let l = c.loop-k in let u = l.invariant.3 in let room = u.room in let long = u.long in omega arith
 
 pub loop-k-preserved : goal.loop-k-preserved
-loop-k-preserved c = let l = c.loop-k in let f = c.run_call-done in (f.auto.corners ∙ l.invariant.0, f.auto.boxes ∙ l.invariant.1, f.auto.undo ∙ l.invariant.2, upto_more _ _ _ l.k _ l.answers l.invariant.3 c.loop-k-test.true c.decode_call-call.result c.decode_call-call.ensures f.result.answer _ (to_z-of_z {w = w64} (record { sfits = c.from.type_inv }) ∙ c.from.ensures) _ f.ensures)
+loop-k-preserved c = let l = c.loop-k in let f = c.run_call-done in (f.auto.corners ∙ l.invariant.0, f.auto.boxes ∙ l.invariant.1, f.auto.undo ∙ l.invariant.2, upto_more _ _ _ l.k _ l.answers l.invariant.3 c.loop-k-test.true c.from-call.result c.from-call.ensures f.result.answer _ (to_z-of_z {w = w64} (record { sfits = c.from.type_inv }) ∙ c.from.ensures) _ f.ensures)
 
 pub returns : goal.returns
 returns c = upto_all _ _ _ c.loop-k.k _ c.loop-k.answers c.loop-k.invariant.3 c.loop-k-test.false

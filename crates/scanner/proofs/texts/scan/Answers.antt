@@ -1,18 +1,45 @@
 -- `scanner::texts::scan` meets its contract.
 use borrow.Author.Rules.{rules}
-use mathlib.Core.Bool.{true, false}
-use Rattle.grammar.specs.Modes.{start_mode, word_mode}
-use Rattle.scanner.proofs.TextScans.{before, one_starts, many_starts, none_starts, nothing_starts}
+use mathlib.Core.Path.{◌≡◌, sym, subst}
+use Prim.Native.Nat.{◌+◌}
+use Rattle.std.specs.Prelude.{Ok, Err}
+use Rattle.grammar.specs.Modes.{start_mode}
+use Rattle.grammar.proofs.Steps.{byte_same}
+use Rattle.scanner.specs.Scanned.{bracketed, TextScanned}
+use Rattle.scanner.proofs.TextScans.{all_whole, all_cut, word_alone, behind_bracket}
 use Rattle.scanner.proofs.texts.scan.Goals as goal
 
-pub returns-in-Some-eq80 : goal.returns-in-Some-eq80
-returns-in-Some-eq80 c = before c.args.text.now 1 (word_mode false 1) 0 start_mode c.args.corners.now c.polygon_text.new.corners c.args.lengths.now c.polygon_text.new.lengths c.args.counts.now c.polygon_text.new.counts c.polygon_text.result (one_starts c.args.text.now (search rules) (search rules)) c.polygon_text.ensures
+pub returns-then-ne : goal.returns-then-ne
+returns-then-ne c = let a = c.args in let w = c.in_ok-multi in word_alone a.text.now w.multi w.at w.ensures a.corners.now a.lengths.now a.counts.now c.without_brackets.result c.without_brackets.ensures
 
-pub returns-in-Some-eq77 : goal.returns-in-Some-eq77
-returns-in-Some-eq77 c = before c.args.text.now 1 (word_mode true 1) 0 start_mode c.args.corners.now c.multipolygon_text.new.corners c.args.lengths.now c.multipolygon_text.new.lengths c.args.counts.now c.multipolygon_text.new.counts c.multipolygon_text.result (many_starts c.args.text.now (search rules) (search rules)) c.multipolygon_text.ensures
+pub returns-in_err-extent : goal.returns-in_err-extent
+returns-in_err-extent c =
+    let a = c.args in
+    let w = c.in_ok-multi in
+    let m = c.next_byte-next.result in
+    let n = c.in_brackets.new in
+    let e : c.from_residual-in_err-extent.result ≡ Err c.in_err-extent.field-0.0 = search rules in
+    subst (TextScanned a.text.now 0 start_mode a.corners.now n.corners a.lengths.now n.lengths a.counts.now n.counts) (sym e)
+    (behind_bracket a.text.now w.multi w.at w.ensures m c.next_byte-next.ensures (byte_same m.byte 40 c.if-ne.ensures) a.corners.now n.corners a.lengths.now n.lengths a.counts.now n.counts (Err c.in_err-extent.field-0.0) c.in_err-extent.ensures)
 
-pub returns-in_default : goal.returns-in_default
-returns-in_default c = none_starts c.args.text.now (search rules) (search rules) (search rules)
+pub returns-in_err-to_end : goal.returns-in_err-to_end
+returns-in_err-to_end c =
+    let a = c.args in
+    let w = c.in_ok-multi in
+    let m = c.next_byte-next.result in
+    let n = c.in_brackets.new in
+    let g = c.in_ok-extent in
+    let e : c.from_residual-in_err-to_end.result ≡ Err c.in_err-to_end.field-0.0 = search rules in
+    subst (TextScanned a.text.now 0 start_mode a.corners.now n.corners a.lengths.now n.lengths a.counts.now n.counts) (sym e)
+    (behind_bracket a.text.now w.multi w.at w.ensures m c.next_byte-next.ensures (byte_same m.byte 40 c.if-ne.ensures) a.corners.now n.corners a.lengths.now n.lengths a.counts.now n.counts (Err c.in_err-to_end.field-0.0)
+    (all_cut a.text.now (m.at + 1) (bracketed w.multi) a.corners.now n.corners a.lengths.now n.lengths a.counts.now n.counts g.extent g.end g.ensures _ c.in_err-to_end.ensures))
 
-pub returns-in_default-2 : goal.returns-in_default-2
-returns-in_default-2 c = nothing_starts c.args.text.now (search rules)
+pub returns : goal.returns
+returns c =
+    let a = c.args in
+    let w = c.in_ok-multi in
+    let m = c.next_byte-next.result in
+    let n = c.in_brackets.new in
+    let g = c.in_ok-extent in
+    behind_bracket a.text.now w.multi w.at w.ensures m c.next_byte-next.ensures (byte_same m.byte 40 c.if-ne.ensures) a.corners.now n.corners a.lengths.now n.lengths a.counts.now n.counts (Ok g.extent)
+    (all_whole a.text.now (m.at + 1) (bracketed w.multi) a.corners.now n.corners a.lengths.now n.lengths a.counts.now n.counts g.extent g.end g.ensures c.in_ok-to_end.field-0 c.in_ok-to_end.ensures)

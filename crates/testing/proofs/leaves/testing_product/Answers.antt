@@ -22,4 +22,4 @@ signed_product-requires c =
     subst (λ z. nat_abs z < word_pair) (sym (exact c)) (product_fits c.args.a c.args.b c.args.c c.args.d c.ranges.a c.ranges.b c.ranges.c c.ranges.d)
 
 pub returns : goal.returns
-returns c = c.words_of.ensures ∙ c.signed_product.ensures ∙ exact (goal.at.returns c).After-difference-2
+returns c = c.from.ensures ∙ c.signed_product.ensures ∙ exact (goal.at.returns c).After-difference-2
