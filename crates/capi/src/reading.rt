@@ -32,7 +32,7 @@ pub extern "C" fn findspot_read_plan(
 pub extern "C" fn findspot_line(text: &[u8], k: usize) -> Span
     ensures { LineSpan text.now k result }
 {
-    line_span(text, k).unwrap_or_default()
+    line_span(text, k)
 }
 
 /// N(n), the rows that the tables of boxes and of parts need for a plan of n corners, for any n: `index::count::node_count`. Nothing is refused.

@@ -34,6 +34,22 @@ pub ≤ℤ_trans : (x y z : ℤ) → x ≤ℤ y → y ≤ℤ z → x ≤ℤ z
 pub ≤ℤ_antisym : (x y : ℤ) → x ≤ℤ y → y ≤ℤ x → x ≡ y
 ≤ℤ_antisym = byℕ₂ (λ x y. x ≤ℤ y → y ≤ℤ x → x ≡ y) (λ a b c d. simp diff (omega arith))
 
+pub <ℤ→≤ℤ : (x y : ℤ) → x <ℤ y → x ≤ℤ y
+<ℤ→≤ℤ = byℕ₂ (λ x y. x <ℤ y → x ≤ℤ y) (λ a b c d. simp diff (omega arith))
+
+pub +ℤ_mono : (x y z : ℤ) → x ≤ℤ y → (x +ℤ z) ≤ℤ (y +ℤ z)
++ℤ_mono = byℕ₃ (λ x y z. x ≤ℤ y → (x +ℤ z) ≤ℤ (y +ℤ z)) (λ a b c d e f. simp diff (omega arith))
+
+pub neg_mono : (x y : ℤ) → x ≤ℤ y → neg_ℤ y ≤ℤ neg_ℤ x
+neg_mono = byℕ₂ (λ x y. x ≤ℤ y → neg_ℤ y ≤ℤ neg_ℤ x) (λ a b c d. simp diff (omega arith))
+
+pub ≤_sub : (x y : ℤ) → (x ≤ℤ y) ↔ (pos 0 ≤ℤ (y -ℤ x))
+≤_sub = byℕ₂ (λ x y. (x ≤ℤ y) ↔ (pos 0 ≤ℤ (y -ℤ x))) (λ a b c d. simp diff (omega arith))
+
+-- multiplied by a number that is not negative
+pub *ℤ_mono : (x y : ℤ) (k : ℕ) → x ≤ℤ y → (x *ℤ pos k) ≤ℤ (y *ℤ pos k)
+*ℤ_mono x y k = byℕ₂ (λ x y. x ≤ℤ y → (x *ℤ pos k) ≤ℤ (y *ℤ pos k)) (λ a b c d. simp diff (λ h. omega (arith, mul-le-mul_right k h))) x y
+
 -- ---- the bridge: `omega zarith` reads orders and equations of ℤ; up z and dn z are atoms to it
 pub ≤ℤ→ℕ : (x y : ℤ) → x ≤ℤ y → up x + dn y ≤ up y + dn x
 ≤ℤ→ℕ x y h = (le_⊖ (up x) (dn x) (up y) (dn y)).0 (rw (← parts x, ← parts y) h)

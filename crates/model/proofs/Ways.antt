@@ -37,6 +37,9 @@ accepted_refused refusal e = let z : ◌≡◌ {A = ℕ} 0 1 = cc in omega arith
 pub at_refused : (location : Location) (refusal : Refusal) → At location ≡ Refused refusal → ⊥
 at_refused location refusal e = let z : ◌≡◌ {A = ℕ} 0 1 = cc in omega arith
 
+pub at_accepted : (location : Location) → At location ≡ Accepted → ⊥
+at_accepted location e = let z : ◌≡◌ {A = ℕ} 0 1 = cc in omega arith
+
 pub settled_open : (a : Answer) → Settled a ≡ Open → ⊥
 settled_open a e = let z : ◌≡◌ {A = ℕ} 0 1 = cc in omega arith
 
@@ -192,3 +195,11 @@ open_undo state e =
     some : (k : ℕ) → (k ≡ 0 → ⊥) → 0 < k
     some zero n = absurd (n refl)
     some (suc k) n = omega arith
+
+look_tests : (m p : Bool) → cond m (Settled (At Outside)) (cond p Open (Settled (At Outside))) ≡ Open → (m ≡ false) × (p ≡ true)
+look_tests true p e = absurd (settled_open _ e)
+look_tests false false e = absurd (settled_open _ e)
+look_tests false true e = (refl, refl)
+
+pub open_look : (state : State) (ranged : Bool) → look_early state ranged ≡ Open → (state.out_of_range ≡ false) × (ranged ≡ true)
+open_look state ranged e = look_tests state.out_of_range ranged e

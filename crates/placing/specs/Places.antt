@@ -13,7 +13,6 @@ use Rattle.refit.specs.Refits.{refitted}
 use Rattle.model.specs.Entries.{put_corner}
 use Rattle.model.specs.Prepared.{EdgeOf}
 use Rattle.placing.specs.Ways.{CorrectionSound}
-use Rattle.refit.specs.declared.Way.{Way}
 
 -- 0 for a correction that was made, or the refusal
 abbrev pub correction_number : Result Point Unsound → ℕ
@@ -21,17 +20,17 @@ correction_number (Ok old) = 0
 correction_number (Err _) = refusal_number Refusal.TheVariants.Unsound
 
 -- corner i and what is read to refit along two paths are inside their tables
-pub record Placeable (n i : ℕ) (corners : List ℤ) (boxes : List (List ℤ)) (parts : List (List ℕ)) (edges : List ℕ) (after before : Way) : Type 0 where
+pub record Placeable (n i : ℕ) (corners : List ℤ) (boxes : List (List ℤ)) (parts : List (List ℕ)) (edges path stops path₂ stops₂ : List ℕ) (depth depth₂ : ℕ) : Type 0 where
   pub one : i < n
   pub corners_reach : 2 * n ≤ length corners
   pub boxes_reach : node_count n ≤ length boxes
-  pub starts : Fine n parts edges after.path.items after.stops.items (length after.path.items)
-  pub stops : Fine n parts edges before.path.items before.stops.items (length before.path.items)
+  pub fine : Fine n parts edges path stops depth
+  pub fine₂ : Fine n parts edges path₂ stops₂ depth₂
 
 -- on any tables: the corner stands at its place, and the boxes on the two paths are refitted, one path after the other
-pub record Placed (i : ℕ) (place : Point) (corners : List ℤ) (boxes : List (List ℤ)) (parts : List (List ℕ)) (edges : List ℕ) (after before : Way) (corners' : List ℤ) (boxes' : List (List ℤ)) : Type 0 where
+pub record Placed (i : ℕ) (place : Point) (corners : List ℤ) (boxes : List (List ℤ)) (parts : List (List ℕ)) (edges path stops path₂ stops₂ : List ℕ) (depth depth₂ : ℕ) (corners' : List ℤ) (boxes' : List (List ℤ)) : Type 0 where
   pub corners_are : corners' ≡ put_corner corners i place
-  pub boxes_are : boxes' ≡ refitted corners' (refitted corners' boxes parts edges after.path.items after.stops.items (length after.path.items)) parts edges before.path.items before.stops.items (length before.path.items)
+  pub boxes_are : boxes' ≡ refitted corners' (refitted corners' boxes parts edges path stops depth) parts edges path₂ stops₂ depth₂
 
 -- node p has one of corner i's two edges among its edges
 pub record AboveEdges (n : ℕ) (rings : List ℕ) (parts : List (List ℕ)) (edges : List ℕ) (i p : ℕ) : Type 0 where

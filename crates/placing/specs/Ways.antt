@@ -5,7 +5,6 @@ use Rattle.rules.specs.Nodes.{node_count}
 use Rattle.boxes.specs.Rings.{next_corner, RingEnds}
 use Rattle.index.specs.Sound.{IndexSound}
 use Rattle.refit.specs.Paths.{Found}
-use Rattle.refit.specs.declared.Way.{Way}
 use Rattle.placing.specs.declared.places.Places.{Places}
 
 -- soundness as far as a correction rests on it: the corners' length, rings and index of a plan under item 1's ceiling
@@ -30,8 +29,8 @@ PlacesSay n count corners rings boxes parts edges i (Ok places) = PlacesFound n 
 PlacesSay n count corners rings boxes parts edges i (Err _) = CorrectionSound n count corners rings boxes parts edges → i < n → ⊥
 
 -- the ways to a corner's two edges, the one that starts there and the one that ends there
-pub record WaysFound (n count : ℕ) (corners : List ℤ) (rings : List ℕ) (boxes : List (List ℤ)) (parts : List (List ℕ)) (edges : List ℕ) (i : ℕ) (after before : Way) : Type 0 where
+pub record WaysFound (n count : ℕ) (corners : List ℤ) (rings : List ℕ) (boxes : List (List ℤ)) (parts : List (List ℕ)) (edges : List ℕ) (i : ℕ) (path stops path₂ stops₂ : List ℕ) (depth depth₂ : ℕ) : Type 0 where
   pub at : Places
   pub places : PlacesFound n count corners rings boxes edges i at
-  pub starts : Found n count rings parts edges at.after after.path.items after.stops.items (length after.path.items)
-  pub stops : Found n count rings parts edges at.before before.path.items before.stops.items (length before.path.items)
+  pub one : Found n count rings parts edges at.after path stops depth
+  pub other : Found n count rings parts edges at.before path₂ stops₂ depth₂

@@ -6,29 +6,43 @@ ghost use Rattle.placing.specs.Places.{Placeable, Placed, CorrectionSays};
 mod places;
 
 use geom::Point;
+use index::build::LEAF;
 use places::places_of;
 use plans::{corner_at, put_corner};
-use refit::{Way, find_way, refit};
+use refit::{DEPTH, find_way, refit};
 use rules::Unsound;
 
-// Puts corner i at a place, and makes anew the boxes on the ways to its two edges, the one after it and the one before it.
+// Puts corner i at a place, and makes anew the boxes on the paths to its two edges, one path after the other.
 fn place_corner(
     corners: &mut [i64],
     boxes: &mut [[i64; 4]],
     parts: &[[usize; 3]],
     edges: &[usize],
-    after: &Way,
-    before: &Way,
+    path: &[usize],
+    stops: &[usize],
+    other_path: &[usize],
+    other_stops: &[usize],
     n: usize,
+    depth: usize,
+    other_depth: usize,
     i: usize,
     place: Point,
 )
-    requires { Placeable n i corners.old boxes.old parts.now edges.now after.now before.now }
-    ensures { Placed i place corners.old boxes.old parts.now edges.now after.now before.now corners.new boxes.new }
+    requires { Placeable n i corners.old boxes.old parts.now edges.now path.now stops.now other_path.now other_stops.now depth other_depth }
+    ensures { Placed i place corners.old boxes.old parts.now edges.now path.now stops.now other_path.now other_stops.now depth other_depth corners.new boxes.new }
 {
     put_corner(corners, i, place);
-    refit(corners, boxes, parts, edges, after, n);
-    refit(corners, boxes, parts, edges, before, n);
+    refit(corners, boxes, parts, edges, path, stops, n, depth);
+    refit(
+        corners,
+        boxes,
+        parts,
+        edges,
+        other_path,
+        other_stops,
+        n,
+        other_depth,
+    );
 }
 
 /// Puts corner i of n, in `count` rings, at a place, and gives the place where it stood before. All that can refuse is found and tested
@@ -47,9 +61,45 @@ pub fn correct(
     ensures { CorrectionSays n count rings.now parts.now edges.now i place corners.old boxes.old corners.new boxes.new result }
 {
     let places = places_of(corners, rings, boxes, parts, edges, n, count, i)?;
-    let after = find_way(rings, parts, edges, n, count, places.after)?;
-    let before = find_way(rings, parts, edges, n, count, places.before)?;
+    let mut path = [0; DEPTH];
+    let mut stops = [0; LEAF];
+    let mut other_path = [0; DEPTH];
+    let mut other_stops = [0; LEAF];
+    let depth = find_way(
+        &mut path,
+        &mut stops,
+        rings,
+        parts,
+        edges,
+        n,
+        count,
+        places.after,
+    )?;
+    let other_depth = find_way(
+        &mut other_path,
+        &mut other_stops,
+        rings,
+        parts,
+        edges,
+        n,
+        count,
+        places.before,
+    )?;
     let old = corner_at(corners, i);
-    place_corner(corners, boxes, parts, edges, &after, &before, n, i, place);
+    place_corner(
+        corners,
+        boxes,
+        parts,
+        edges,
+        &path,
+        &stops,
+        &other_path,
+        &other_stops,
+        n,
+        depth,
+        other_depth,
+        i,
+        place,
+    );
     Ok(old)
 }

@@ -52,10 +52,14 @@ pub fn all_in_range(coordinates: &[i64]) -> bool
 fn sums_to(table: &[usize], n: usize) -> bool
     ensures { result ≡ eqb (total table.now) n }
 {
-    let left = table
-        .iter()
-        .fold(Some(n), |left, &entry| left?.checked_sub(entry));
-    left == Some(0)
+    let mut left = n;
+    for &entry in table {
+        if entry > left {
+            return false;
+        }
+        left -= entry;
+    }
+    left == 0
 }
 
 /// Whether some entry of a table is 0: among ring counts a polygon of no rings, among ring lengths an empty ring.

@@ -11,7 +11,10 @@ fn put_corners(coordinates: &[i64], corners: &mut [i64])
     requires { length coordinates.now ≤ length corners.old }
     ensures { corners.new ≡ coordinates.now ++ drop (length coordinates.now) corners.old }
 {
-    corners[..coordinates.len()].copy_from_slice(coordinates);
+    // `copy_from_slice` would have a server link C's `memmove`.
+    for (i, &coordinate) in coordinates.iter().enumerate() {
+        corners[i] = coordinate;
+    }
 }
 
 // Puts the sums so far of a list of lengths at the start of a table.

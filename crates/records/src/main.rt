@@ -11,11 +11,12 @@
 use boxes::previous_corner;
 use corrections::move_corner;
 use geom::{Point, Rect};
+use index::build::LEAF;
 use index::parts::Part;
 use nodes::{Node, node_at, put_node, refit_cut, refit_leaf};
 use plans::Plan;
 use prepare::prepare;
-use refit::{Way, find_way};
+use refit::{DEPTH, find_way};
 use rules::{Kind, State};
 use std::io;
 use walk::LentPlan;
@@ -74,8 +75,8 @@ fn alike(nodes: &[Node], boxes: &[[i64; 4]], parts: &[[usize; 3]]) -> bool {
 }
 
 // Refits the nodes of a path, the last of them, a leaf, by its edges and then each above it by its children.
-fn along(nodes: &mut [Node], plan: &LentPlan<'_>, way: &Way) {
-    let [above @ .., leaf] = way.path.as_slice() else {
+fn along(nodes: &mut [Node], plan: &LentPlan<'_>, path: &[usize]) {
+    let [above @ .., leaf] = path else {
         return;
     };
     let _ = refit_leaf(
@@ -97,8 +98,13 @@ fn refit_above(nodes: &mut [Node], plan: &LentPlan<'_>, e: usize) {
     let Ok(k) = place_of_edge(plan, e) else {
         return;
     };
-    if let Ok(way) = find_way(plan.rings, plan.parts, plan.edges, plan.n, plan.count, k) {
-        along(nodes, plan, &way);
+    let mut path = [0; DEPTH];
+    let mut stops = [0; LEAF];
+    let way = find_way(
+        &mut path, &mut stops, plan.rings, plan.parts, plan.edges, plan.n, plan.count, k,
+    );
+    if let Ok(depth) = way {
+        along(nodes, plan, path.get(..depth).unwrap_or(&[]));
     }
 }
 

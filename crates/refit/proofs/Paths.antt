@@ -1,15 +1,14 @@
 -- The path from the root to a place of the edge list: it grows node by node, on sound tables it ends after at most 18 nodes, and it is
 -- just the nodes whose parts hold the place. Assumes nothing.
 use mathlib.Core.Path.{◌≡◌, sym, ap, ◌∙◌, subst}
-use mathlib.Core.List.{List, [], ◌∷◌, ◌++◌}
+use mathlib.Core.List.{List}
 use Prim.Native.Nat.{ℕ, zero, suc, ◌+◌, ◌-◌, ◌/◌, ◌^◌, ◌≤◌, ◌<◌}
 use native.Mathlib.Numerals.{add-one}
 use native.Mathlib.Decide.{ℕ_discrete, dec_lt}
 use native.Mathlib.Omega.{arith}
 use lib.IntN.{ℤ}
-use lib.ListN.{length, get_or}
-use Rattle.std.proofs.Math.Seq.{get_or-append_seam}
-use Rattle.std.proofs.lemmas.List.{get_or_append_left}
+use lib.ListN.{length, get_or, set}
+use lib.Seq.{get_or-set_same, get_or-set_other}
 use Rattle.rules.specs.Nodes.{node_count}
 use Rattle.index.specs.Parts.{first_at, count_at, child_at}
 use Rattle.index.specs.Sound.{IndexSound}
@@ -19,22 +18,25 @@ use Rattle.index.proofs.Soundness.{every_node, children_later, part_inside}
 use Rattle.refit.specs.Paths.{Holds, Open, Below, Leads, PathTo, RefitSound}
 
 -- ---- node by node, on any tables
-pub leads_more : (parts : List (List ℕ)) (nodes k : ℕ) (path : List ℕ) (c : ℕ) → length path < 18 → Leads parts nodes k path (length path) → Below parts nodes k (get_or path (length path - 1) 0) c → Leads parts nodes k (path ++ c ∷ []) (length path + 1)
-leads_more parts nodes k path c room L B = record {
+pub leads_start : (parts : List (List ℕ)) (nodes k : ℕ) (path : List ℕ) → get_or path 0 0 ≡ 0 → Leads parts nodes k path 1
+leads_start parts nodes k path e = record { some = omega arith; few = omega arith; root = e; down = λ j h. absurd (omega arith) }
+
+pub leads_more : (parts : List (List ℕ)) (nodes k : ℕ) (path : List ℕ) (depth c : ℕ) → 18 ≤ length path → depth < 18 → Leads parts nodes k path depth → Below parts nodes k (get_or path (depth - 1) 0) c → Leads parts nodes k (set path depth c) (depth + 1)
+leads_more parts nodes k path depth c room few L B = record {
   some = omega arith;
   few = omega arith;
-  root = old 0 L.some ∙ L.root;
-  down = λ j t. go j t (ℕ_discrete (j + 1) (length path));
+  root = get_or-set_other path depth 0 c 0 (let s = L.some in omega arith) ∙ L.root;
+  down = λ j t. go j t (ℕ_discrete (j + 1) depth);
 }
   where
-    old : (j : ℕ) → j < length path → get_or (path ++ c ∷ []) j 0 ≡ get_or path j 0
-    old j t = get_or_append_left path (c ∷ []) 0 j t
+    old : (j : ℕ) → j < depth → get_or (set path depth c) j 0 ≡ get_or path j 0
+    old j t = get_or-set_other path depth j c 0 (omega arith)
 
-    go : (j : ℕ) → j + 1 < length path + 1 → Dec (j + 1 ≡ length path) → Below parts nodes k (get_or (path ++ c ∷ []) j 0) (get_or (path ++ c ∷ []) (j + 1) 0)
+    go : (j : ℕ) → j + 1 < depth + 1 → Dec (j + 1 ≡ depth) → Below parts nodes k (get_or (set path depth c) j 0) (get_or (set path depth c) (j + 1) 0)
     go j t (yes e) =
-        let a : get_or (path ++ c ∷ []) (j + 1) 0 ≡ c = ap (λ (x : ℕ). get_or (path ++ c ∷ []) x 0) e ∙ get_or-append_seam path c [] 0 in
-        let s : j ≡ length path - 1 = omega arith in
-        let b : get_or (path ++ c ∷ []) j 0 ≡ get_or path (length path - 1) 0 = old j (omega arith) ∙ ap (λ (x : ℕ). get_or path x 0) s in
+        let a : get_or (set path depth c) (j + 1) 0 ≡ c = ap (λ (x : ℕ). get_or (set path depth c) x 0) e ∙ get_or-set_same path depth c 0 (omega arith) in
+        let s : j ≡ depth - 1 = omega arith in
+        let b : get_or (set path depth c) j 0 ≡ get_or path (depth - 1) 0 = old j (omega arith) ∙ ap (λ (x : ℕ). get_or path x 0) s in
         rw (a, b) B
     go j t (no d) = rw (old j (omega arith), old (j + 1) (omega arith)) (L.down j (omega arith))
 

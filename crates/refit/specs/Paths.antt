@@ -4,16 +4,15 @@ use Rattle.rules.specs.declared.Refusal as Refusal
 use Rattle.rules.specs.declared.Unsound.{Unsound}
 use Rattle.rules.specs.Nodes.{node_count}
 use Rattle.rules.specs.Numbers.{refusal_number}
-use Rattle.arrayvec.specs.ArrayVec.{ArrayVec}
 use Rattle.boxes.specs.Boxes.{Names}
 use Rattle.boxes.specs.Rings.{next_corner, RingEnds}
+use Rattle.index.specs.Build.{KeptFrom}
 use Rattle.index.specs.Parts.{first_at, count_at, child_at}
 use Rattle.index.specs.Sound.{IndexSound}
-use Rattle.refit.specs.declared.Way.{Way}
 
--- 0 for a way, or the refusal
-abbrev pub way_number : Result Way Unsound → ℕ
-way_number (Ok way) = 0
+-- 0 for a path, or the refusal
+abbrev pub way_number : Result ℕ Unsound → ℕ
+way_number (Ok depth) = 0
 way_number (Err _) = refusal_number Refusal.TheVariants.Unsound
 
 -- a flag says whether something holds
@@ -82,9 +81,9 @@ pub record RefitSound (n count : ℕ) (corners : List ℤ) (rings : List ℕ) (b
   pub ends : RingEnds n count rings
   pub index : IndexSound n corners rings boxes parts edges
 
-abbrev pub PathSays : ℕ → List (List ℕ) → ℕ → ℕ → Result (ArrayVec ℕ) Unsound → Type 0
-PathSays n parts nodes k (Ok path) = PathTo n parts nodes k path.items (length path.items)
-PathSays n parts nodes k (Err _) = (count : ℕ) (corners : List ℤ) (rings : List ℕ) (boxes : List (List ℤ)) (edges : List ℕ) → RefitSound n count corners rings boxes parts edges → ⊥
+abbrev pub PathSays : ℕ → List (List ℕ) → ℕ → ℕ → List ℕ → Result ℕ Unsound → Type 0
+PathSays n parts nodes k path (Ok depth) = PathTo n parts nodes k path depth
+PathSays n parts nodes k path (Err _) = (count : ℕ) (corners : List ℤ) (rings : List ℕ) (boxes : List (List ℤ)) (edges : List ℕ) → RefitSound n count corners rings boxes parts edges → ⊥
 
 -- ---- the corners at which a leaf's edges end
 
@@ -94,14 +93,17 @@ pub record Stops (n count : ℕ) (rings edges : List ℕ) (f m : ℕ) (stops : L
   pub inside : (j : ℕ) → j < m → get_or stops j 0 < n
   pub named : RingEnds n count rings → (j : ℕ) → j < m → get_or stops j 0 ≡ next_corner rings (get_or edges (f + j) 0)
 
-abbrev pub StopsSay : ℕ → ℕ → List ℕ → List ℕ → ℕ → ℕ → Result (ArrayVec ℕ) Unsound → Type 0
-StopsSay n count rings edges f m (Ok stops) = (length stops.items ≡ m) × Stops n count rings edges f m stops.items
-StopsSay n count rings edges f m (Err _) = RingEnds n count rings → Names n edges f m → ⊥
+abbrev pub StopsSay : ℕ → ℕ → List ℕ → List ℕ → ℕ → ℕ → List ℕ → Result Unit Unsound → Type 0
+StopsSay n count rings edges f m stops (Ok _) = Stops n count rings edges f m stops
+StopsSay n count rings edges f m stops (Err _) = RingEnds n count rings → Names n edges f m → ⊥
 
 -- ---- the way to a place
 
--- no table is shorter than the state says, the last ring ends at the last corner, and the edge list has a place k
-pub record Lent (n count k : ℕ) (rings : List ℕ) (parts edges : ℕ) : Type 0 where
+-- the path and the corners have room, no table is shorter than the state says, the last ring ends at the last corner, and the edge
+-- list has a place k
+pub record Lent (n count k path stops : ℕ) (rings : List ℕ) (parts edges : ℕ) : Type 0 where
+  pub path_reach : 18 ≤ path
+  pub stops_reach : 8 ≤ stops
   pub some : 0 < count
   pub rings_reach : count ≤ length rings
   pub last_end : get_or rings (count - 1) 0 ≡ n
@@ -120,21 +122,28 @@ pub record Fine (n : ℕ) (parts : List (List ℕ)) (edges path stops : List ℕ
 
 -- the way to place k: its path, and where the edges of its leaf end. Whatever is too short for the state has no way
 pub record Found (n count : ℕ) (rings : List ℕ) (parts : List (List ℕ)) (edges : List ℕ) (k : ℕ) (path stops : List ℕ) (depth : ℕ) : Type 0 where
+  pub number : way_number (Ok depth) ≡ 0
   pub place : k < n
-  pub lent : Lent n count k rings (length parts) (length edges)
+  pub lent : Lent n count k (length path) (length stops) rings (length parts) (length edges)
   pub fine : Fine n parts edges path stops depth
   pub path_to : PathTo n parts (node_count n) k path depth
   pub stops_are : Stops n count rings edges (first_at parts (get_or path (depth - 1) 0)) (count_at parts (get_or path (depth - 1) 0)) stops
 
-pub record WayFound (n count : ℕ) (rings : List ℕ) (parts : List (List ℕ)) (edges : List ℕ) (k : ℕ) (way : Way) : Type 0 where
-  pub number : way_number (Ok way) ≡ 0
-  pub found : Found n count rings parts edges k way.path.items way.stops.items (length way.path.items)
+-- the way found, in what was lent as working space: of the path only the first 18 numbers may have changed, and of the stops the first 8
+pub record WayFound (n count : ℕ) (rings : List ℕ) (parts : List (List ℕ)) (edges : List ℕ) (k : ℕ) (path stops path' stops' : List ℕ) (depth : ℕ) : Type 0 where
+  pub found : Found n count rings parts edges k path' stops' depth
+  pub path_space : KeptFrom 18 path path'
+  pub stops_space : KeptFrom 8 stops stops'
 
--- 15: never on sound tables that have a place k
-pub record WayRefused (n count : ℕ) (rings : List ℕ) (parts : List (List ℕ)) (edges : List ℕ) (k : ℕ) : Type 0 where
+-- 15: never on sound tables that have a place k, with room. Path and stops are working space, of which only the first 18 and the first 8
+-- numbers may have changed, and none where a table or one of the two is too short
+pub record WayRefused (n count : ℕ) (rings : List ℕ) (parts : List (List ℕ)) (edges : List ℕ) (k : ℕ) (path stops path' stops' : List ℕ) : Type 0 where
   pub number : way_number (Err (record {})) ≡ 15
-  pub never : k < n → (corners : List ℤ) (boxes : List (List ℤ)) → RefitSound n count corners rings boxes parts edges → ⊥
+  pub never : 18 ≤ length path → 8 ≤ length stops → k < n → (corners : List ℤ) (boxes : List (List ℤ)) → RefitSound n count corners rings boxes parts edges → ⊥
+  pub path_space : KeptFrom 18 path path'
+  pub stops_space : KeptFrom 8 stops stops'
+  pub unlent : (Lent n count k (length path) (length stops) rings (length parts) (length edges) → ⊥) → (path' ≡ path) × (stops' ≡ stops)
 
-abbrev pub WaySays : ℕ → ℕ → List ℕ → List (List ℕ) → List ℕ → ℕ → Result Way Unsound → Type 0
-WaySays n count rings parts edges k (Ok way) = WayFound n count rings parts edges k way
-WaySays n count rings parts edges k (Err _) = WayRefused n count rings parts edges k
+abbrev pub WaySays : ℕ → ℕ → List ℕ → List (List ℕ) → List ℕ → ℕ → List ℕ → List ℕ → List ℕ → List ℕ → Result ℕ Unsound → Type 0
+WaySays n count rings parts edges k path stops path' stops' (Ok depth) = WayFound n count rings parts edges k path stops path' stops' depth
+WaySays n count rings parts edges k path stops path' stops' (Err _) = WayRefused n count rings parts edges k path stops path' stops'

@@ -5,11 +5,11 @@
 ghost use Rattle.std.specs.Prelude.{◌≡◌, ◌+◌, ◌-◌, ◌*◌, ◌<◌, ◌≤◌, length, get_or, set};
 ghost use Rattle.rules.specs.Nodes.{node_count};
 ghost use Rattle.boxes.specs.Boxes.{row_of};
+ghost use Rattle.index.specs.Build.{KeptFrom};
 ghost use Rattle.index.specs.Parts.{first_at, count_at, child_at};
 ghost use Rattle.refit.specs.Paths.{Whether, StepSays, PathSays, StopsSay, Lent, Spans, Fine, WaySays};
 ghost use Rattle.refit.specs.Refits.{span_of, leaf_box, cut_box, leaf_fitted, Refit};
 
-use arrayvec::ArrayVec;
 use boxes::{next_corner, put_rect, rect_at, ring_near};
 use geom::Rect;
 use index::build::LEAF;
@@ -18,17 +18,8 @@ use index::parts::part_at;
 use plans::corner_at;
 use rules::Unsound;
 
-/// The most nodes from the root of a sound index down to a leaf.
+/// The most nodes from the root of a sound index down to a leaf, and the least length of the path that `find_way` is lent.
 pub const DEPTH: usize = 18;
-
-/// The way to a place of the edge list.
-#[derive(Drop)]
-pub struct Way {
-    /// The nodes on the path to it: the root first, the leaf last.
-    pub path: ArrayVec<usize, DEPTH>,
-    /// The corners at which the edges of the leaf end, one after another.
-    pub stops: ArrayVec<usize, LEAF>,
-}
 
 // From node p towards place k: the child on whose side the place lies, or `None` at a leaf. Refused with 15 (`Unsound`) where a number that
 // the node names is outside its table.
@@ -55,47 +46,53 @@ fn step_to(
     Ok(Some(left + 1))
 }
 
-// The path to place k: the nodes on whose side the place lies, the root first, on sound tables those whose parts hold it.
+// The nodes on whose side place k lies, the root first: on sound tables those whose parts hold it. Gives how many there are. Only the path
+// is written.
 fn path_to(
+    path: &mut [usize],
     parts: &[[usize; 3]],
     n: usize,
     nodes: usize,
     k: usize,
-) -> Result<ArrayVec<usize, DEPTH>, Unsound>
-    requires in_bounds { nodes ≤ length parts.now }
+) -> Result<usize, Unsound>
+    requires in_bounds { (18 ≤ length path.old) × (nodes ≤ length parts.now) }
     requires index_place { (nodes ≡ node_count n) × (k < n) }
-    ensures { PathSays n parts.now nodes k result }
+    ensures path_says { PathSays n parts.now nodes k path.new result }
+    ensures kept_from { KeptFrom 18 path.old path.new }
 {
-    let mut path = ArrayVec::new();
-    path.push(0);
+    path[0] = 0;
+    let mut depth = 1;
     let mut p = 0;
     while let Some(child) = step_to(parts, n, nodes, k, p)? {
-        if path.is_full() {
+        if DEPTH <= depth {
             return Err(Unsound);
         }
-        path.push(child);
+        path[depth] = child;
+        depth += 1;
         p = child;
     }
-    Ok(path)
+    Ok(depth)
 }
 
-// The corners at which the edges at the `size` places from `first` on end, one after another, each edge and each corner tested.
-fn stops_of(
+// The corners at which the edges at the `size` places from `first` on end, one after another, each edge and each corner tested. Only
+// `stops` is written.
+fn put_stops(
+    stops: &mut [usize],
     rings: &[usize],
     edges: &[usize],
     n: usize,
     count: usize,
     first: usize,
     size: usize,
-) -> Result<ArrayVec<usize, LEAF>, Unsound>
+) -> Result<(), Unsound>
     requires last_ring_ends { (0 < count) × (count ≤ length rings.now) × (get_or rings.now (count - 1) 0 ≡ n) }
-    requires size_in_bounds { (first + size ≤ length edges.now) × (size ≤ 8) }
-    ensures { StopsSay n count rings.now edges.now first size result }
+    requires size_in_bounds { (first + size ≤ length edges.now) × (size ≤ length stops.old) }
+    ensures stops_say { StopsSay n count rings.now edges.now first size stops.new result }
+    ensures kept_from { KeptFrom size stops.old stops.new }
 {
-    let mut stops = ArrayVec::new();
     let mut ring = 0;
-    for k in first..first + size {
-        let e = edges[k];
+    for j in 0..size {
+        let e = edges[first + j];
         if n <= e {
             return Err(Unsound);
         }
@@ -104,13 +101,16 @@ fn stops_of(
         if n <= stop {
             return Err(Unsound);
         }
-        stops.push(stop);
+        stops[j] = stop;
     }
-    Ok(stops)
+    Ok(())
 }
 
-// Whether no table is shorter than the state says, the last ring ends at the last corner, and the edge list has a place k.
+// Whether path and stops have room for so many, no table is shorter than the state says, the last ring ends at the last corner, and
+// the edge list has a place k.
 fn lent_enough(
+    path: usize,
+    stops: usize,
     rings: &[usize],
     parts: &[[usize; 3]],
     edges: &[usize],
@@ -118,9 +118,11 @@ fn lent_enough(
     count: usize,
     k: usize,
 ) -> bool
-    ensures { Whether (Lent n count k rings.now (length parts.now) (length edges.now)) result }
+    ensures { Whether (Lent n count k path stops rings.now (length parts.now) (length edges.now)) result }
 {
-    node_count(n) <= parts.len()
+    DEPTH <= path
+        && LEAF <= stops
+        && node_count(n) <= parts.len()
         && n <= edges.len()
         && k < n
         && 0 < count
@@ -129,28 +131,32 @@ fn lent_enough(
 }
 
 /// The way to place k of the edge list: the nodes on the way down to it, root first, and the corners at which the edges of the last of
-/// them, a leaf, end. On sound tables the nodes are just those whose parts hold the place, on others those on whose side it lies. The
-/// tables are only read.
+/// them, a leaf, end. Gives how many nodes the path has. On sound tables the nodes are just those whose parts hold the place, on others
+/// those on whose side it lies. Nothing but `path` and `stops` is written.
 ///
 /// Refused with 15 (`Unsound`) where a number leads outside its table, the path would have more than 18 nodes, there is no place k, the
-/// last ring does not end at the last corner, or a table is too short: never on sound tables that have a place k.
+/// last ring does not end at the last corner, or a table is too short: never on sound tables that have a place k, if there is room. A
+/// `path` of less than 18 nodes or `stops` of less than 8 corners get 15 on sound tables too. Both are the caller's working space: at most
+/// the first 18 and the first 8 numbers of them change, and none where a table or one of the two is too short.
 pub fn find_way(
+    path: &mut [usize],
+    stops: &mut [usize],
     rings: &[usize],
     parts: &[[usize; 3]],
     edges: &[usize],
     n: usize,
     count: usize,
     k: usize,
-) -> Result<Way, Unsound>
-    ensures { WaySays n count rings.now parts.now edges.now k result }
+) -> Result<usize, Unsound>
+    ensures { WaySays n count rings.now parts.now edges.now k path.old stops.old path.new stops.new result }
 {
-    if !lent_enough(rings, parts, edges, n, count, k) {
+    if !lent_enough(path.len(), stops.len(), rings, parts, edges, n, count, k) {
         return Err(Unsound);
     }
-    let path = path_to(parts, n, node_count(n), k)?;
-    let [first, size, _] = parts[path[path.len() - 1]];
-    let stops = stops_of(rings, edges, n, count, first, size)?;
-    Ok(Way { path, stops })
+    let depth = path_to(path, parts, n, node_count(n), k)?;
+    let [first, size, _] = parts[path[depth - 1]];
+    put_stops(stops, rings, edges, n, count, first, size)?;
+    Ok(depth)
 }
 
 // The box of two corners.
@@ -216,7 +222,7 @@ fn fit_cut(boxes: &mut [[i64; 4]], parts: &[[usize; 3]], p: usize)
     put_rect(boxes, p, left.union(right));
 }
 
-/// Makes the boxes on the path of a way anew, the leaf's round its edges first, then each node's above it round its children's, the root's last, so
+/// Makes the boxes on a path anew, the leaf's round its edges first, then each node's above it round its children's, the root's last, so
 /// that boxes narrow as well as widen: on a path that `find_way` found in an index that was sound, each is the smallest again where the
 /// boxes off the path are. No other box is written, and nothing is refused: `find_way` has tested all that is read, but for the lengths
 /// of `corners` and `boxes`.
@@ -225,16 +231,18 @@ pub fn refit(
     boxes: &mut [[i64; 4]],
     parts: &[[usize; 3]],
     edges: &[usize],
-    way: &Way,
+    path: &[usize],
+    stops: &[usize],
     n: usize,
+    depth: usize,
 )
     requires n_in_bounds { (2 * n ≤ length corners.now) × (node_count n ≤ length boxes.old) }
-    requires fine { Fine n parts.now edges.now way.now.path.items way.now.stops.items (length way.now.path.items) }
-    ensures { Refit n corners.now boxes.old parts.now edges.now way.now.path.items way.now.stops.items (length way.now.path.items) boxes.new }
+    requires fine { Fine n parts.now edges.now path.now stops.now depth }
+    ensures { Refit n corners.now boxes.old parts.now edges.now path.now stops.now depth boxes.new }
 {
-    let above = way.path.len() - 1;
-    fit_leaf(corners, boxes, parts, edges, &way.stops, n, way.path[above]);
+    let above = depth - 1;
+    fit_leaf(corners, boxes, parts, edges, stops, n, path[above]);
     for k in (0..above).rev() {
-        fit_cut(boxes, parts, way.path[k]);
+        fit_cut(boxes, parts, path[k]);
     }
 }

@@ -2,7 +2,7 @@
 #![tactic(auto)]
 
 ghost use Rattle.std.specs.Prelude.{◌≡◌, ◌*◌, ◌≤◌, length};
-ghost use Rattle.text.specs.Lines.{line_of, LineFound};
+ghost use Rattle.text.specs.Lines.{line_of, LineSpan, LineFound};
 ghost use Rattle.text.specs.Readings.{with_room, reading, PlanRead, first_plan};
 
 use fields::split_once;
@@ -86,8 +86,8 @@ pub struct Span {
 }
 
 /// Where line k of a text stands, counted from 1 and without its line end. `None` where there is no line k. An unended last piece is a line;
-/// behind a last line end that piece is empty and stands at the text's end. Nothing is refused.
-pub fn line_span(text: &[u8], k: usize) -> Option<Span>
+/// behind a last line end that piece is empty and stands at the text's end.
+pub fn line_found(text: &[u8], k: usize) -> Option<Span>
     ensures { LineFound text.now k result }
 {
     let mut rest = text;
@@ -101,13 +101,18 @@ pub fn line_span(text: &[u8], k: usize) -> Option<Span>
     })
 }
 
+/// Where line k of a text stands, as `line_found` has it. Where there is no line k both numbers are 0. Nothing is refused.
+pub fn line_span(text: &[u8], k: usize) -> Span
+    ensures { LineSpan text.now k result }
+{
+    line_found(text, k).unwrap_or_default()
+}
+
 /// Line k of a text, counted from 1, as a part of it and without its line end. Empty where there is no line k. An unended last piece is a
 /// line.
 pub fn line(text: &[u8], k: usize) -> &[u8]
     ensures { result.now ≡ line_of text.now k }
 {
-    match line_span(text, k) {
-        Some(Span { offset, length }) => &text[offset..offset + length],
-        None => &[],
-    }
+    let span = line_span(text, k);
+    &text[span.offset..span.offset + span.length]
 }

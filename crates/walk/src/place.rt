@@ -1,38 +1,24 @@
 // The place of an edge in the edge list (document 01, item 9, refusal 15; "The correction book": a node's edges are those in its part
 // of the edge list).
-ghost use Rattle.std.specs.Prelude.{◌≡◌, ◌<◌, ◌||◌, eqb, leb, position};
 ghost use Rattle.walk.specs.Places.{WalkedIn, PlaceIn};
 
 use crate::edges::edge_at;
-use crate::{LentPlan, Query, STACK, next_leaf, past_leaf, start};
+use crate::{LentPlan, Query, STACK, next, start};
 use geom::Rect;
 use rules::Unsound;
 
-// Where edge e stands among some edges, or before it a number that is no edge of n.
-fn first_to_stop(edges: &[usize], n: usize, e: usize) -> Option<usize>
-    ensures { result ≡ position (λ x. eqb x e || leb n x) edges.now }
-{
-    edges.iter().position(|&edge| edge == e || n <= edge)
-}
-
 // The place of edge e, found by a walk that enters only boxes that hold `wanted`, the box of the edge.
 fn walk_to(plan: &LentPlan<'_>, wanted: Rect, e: usize) -> Result<usize, Unsound>
-    requires { e < plan.now.n }
     ensures { WalkedIn plan.now wanted e result }
 {
     let query = Query::Holding(wanted);
     let mut stack: [usize; STACK] = [0; STACK];
     let mut cursor = start(plan.n);
-    while let Some(leaf) = next_leaf(&mut stack, plan, query, cursor)? {
-        if let Some(k) = first_to_stop(&plan.edges[leaf.at..leaf.to], plan.n, e) {
-            let place = leaf.at + k;
-            return if plan.edges[place] == e {
-                Ok(place)
-            } else {
-                Err(Unsound)
-            };
+    while let Some(step) = next(&mut stack, plan, query, cursor)? {
+        if step.edge == e {
+            return Ok(step.after.at - 1);
         }
-        cursor = past_leaf(leaf);
+        cursor = step.after;
     }
     Err(Unsound)
 }

@@ -1,15 +1,24 @@
 -- `plans::sums_to` meets its contract: what is left of n, less each entry in turn, is 0 at the end where the table sums to n.
-use borrow.Author.Rules.{rules}
-use borrow.Author.Tests.{tests}
-use mathlib.Core.Path.{subst, ◌∙◌}
-use Rattle.std.proofs.lemmas.Fn.{fold_over, slice_gives, fronts}
-use Rattle.plans.proofs.Sums.{Left, total_none, total_push, none_left}
+use Rattle.plans.proofs.Sums.{start, next, exceeded, finished}
 use Rattle.plans.proofs.sums_to.Goals as goal
+
+pub loop-entry-init : goal.loop-entry-init
+loop-entry-init c = start c.args.table.now c.args.n
+
+pub returns-then-entry-left : goal.returns-then-entry-left
+returns-then-entry-left c =
+    let l = c.loop-entry in
+    let s = c.args in
+    exceeded s.table.now s.n l.left l.entry-index l.invariant c.loop-entry-test.true c.if-entry-left.true
+
+pub loop-entry-preserved : goal.loop-entry-preserved
+loop-entry-preserved c =
+    let l = c.loop-entry in
+    let s = c.args in
+    next s.table.now s.n l.left l.entry-index l.invariant c.loop-entry-test.true c.if-entry-left.false
 
 pub returns : goal.returns
 returns c =
-    c.eq.ensures
-    ∙ none_left c.args.n c.args.table.now c.fold-left.result
-    (subst (λ entries. Left c.args.n entries c.fold-left.result) c.iter.ensures.rest
-    (fold_over fronts (λ y. y.now) _ (Left c.args.n) _ (λ ys a x b f' j k. let more = total_push ys x.now in search (rules, tests))
-    _ _ _ _ (slice_gives c.iter.result) (total_none c.args.n) c.fold-left.ensures.ran))
+    let l = c.loop-entry in
+    let s = c.args in
+    finished s.table.now s.n l.left l.entry-index l.invariant c.loop-entry-test.false

@@ -5,4 +5,4 @@ use Rattle.refit.specs.Refits.{joined}
 use Rattle.refit.proofs.refit.Given as goal
 
 abbrev pub invariant-loop-k : goal.invariant-loop-k
-invariant-loop-k l = (l.k ≤ l.above) × (joined l.parts l.way.path.items l.k l.boxes ≡ joined l.parts l.way.path.items l.above l.initial.boxes)
+invariant-loop-k l = (l.k ≤ l.above) × (joined l.parts l.path l.k l.boxes ≡ joined l.parts l.path l.above l.initial.boxes)

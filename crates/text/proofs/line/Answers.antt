@@ -1,6 +1,9 @@
--- `text::line` meets its contract.
-use Rattle.text.proofs.LineSearch.{none_lies}
+-- `text::line` meets its contract: the bytes of its span.
+use Rattle.text.proofs.LineSearch.{span_taken}
 use Rattle.text.proofs.line.Goals as goal
 
-pub returns-in-None : goal.returns-in-None
-returns-in-None c = none_lies c.args.text.now c.args.k c.in-None.ensures
+pub returns : goal.returns
+returns c =
+    let a = c.args in
+    let l = c.line_span-span in
+    span_taken a.text.now a.k l.result l.ensures

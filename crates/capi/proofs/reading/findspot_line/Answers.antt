@@ -1,7 +1,0 @@
--- `capi::reading::findspot_line` meets its contract.
-use Rattle.std.proofs.Common.{rules}
-use Rattle.text.proofs.LineSearch.{span_or_zeros}
-use Rattle.capi.proofs.reading.findspot_line.Goals as goal
-
-pub returns : goal.returns
-returns c = span_or_zeros c.args.text.now c.args.k c.line_span.result c.unwrap_or_default.result _ (λ s h. search rules) c.line_span.ensures c.unwrap_or_default.ensures
